@@ -1,5 +1,6 @@
 -- That a start over a spool that was taken up comes to the start of the definition.
-use Rattle.std.proofs.Common.{◌≡◌, refl, sym, ap, subst, ◌∙◌, arith, inr, ℕ, suc, ◌+◌, List, [], ◌∷◌, ◌++◌, length, Some, None}
+use Rattle.std.proofs.Common.{◌≡◌, refl, sym, ap, subst, ◌∙◌, arith, inr, ℕ, suc, ◌+◌, List, [], ◌∷◌, ◌++◌, length}
+use Rattle.std.proofs.Common.{Some, None}
 use Rattle.std.proofs.lemmas.Bool.Decides.{nat_tests}
 use Rattle.std.proofs.lemmas.List.Elements.{All-nil}
 use Rattle.std.specs.Prelude.{Result, Ok, Err}
@@ -84,10 +85,10 @@ module _ {D : Type 0} (members : disk.Ghosts D) (plan : EquipmentPlan) (g : GemS
     len-is : g.spool.len ≡ length st.file.list
     len-is = ap (λ (c : Count). c.len) stands.count
 
-    next-is : g.spool.next ≡ first_in st.file.list + length st.file.list
+    next-is : g.spool.next ≡ first_in st.file + length st.file.list
     next-is =
         stands.even ∙ ap (λ (n : ℕ). n + g.spool.len) fresh.first
-        ∙ ap (λ (n : ℕ). first_in st.file.list + n) len-is
+        ∙ ap (λ (n : ℕ). first_in st.file + n) len-is
 
     slots-are : g.spool.slots ≡ st.file.slots
     slots-are = ap (λ (c : Count). c.slots) stands.count
@@ -122,12 +123,12 @@ module _ {D : Type 0} (members : disk.Ghosts D) (plan : EquipmentPlan) (g : GemS
       where
         ledger-is :
             new_ledger h.spool.slots h.spool.first h.spool.len
-            ≡ new_ledger st.file.slots (first_in st.file.list) (length st.file.list)
+            ≡ new_ledger st.file.slots (first_in st.file) (length st.file.list)
         ledger-is =
             ap (λ (v : SpoolView D). new_ledger v.slots v.first v.len) done.0.2
             ∙ ap (λ (n : ℕ). new_ledger n g.spool.first g.spool.len) slots-are
             ∙ ap (λ (n : ℕ). new_ledger st.file.slots n g.spool.len) fresh.first
-            ∙ ap (λ (n : ℕ). new_ledger st.file.slots (first_in st.file.list) n) len-is
+            ∙ ap (λ (n : ℕ). new_ledger st.file.slots (first_in st.file) n) len-is
 
         base-is : base ≡ st.file.mark.value
         base-is = done.0.1 ∙ stands.mark
@@ -139,13 +140,13 @@ module _ {D : Type 0} (members : disk.Ghosts D) (plan : EquipmentPlan) (g : GemS
             (result : Result (Held D) (Starting D)) → StartsWith plan h base out_old out_new result
             → StartsOver members plan g out_new result
         started (Ok e) is = record {
-          room = let left = done.0.0.left in let mark = stands.mark in grind (arith, nat_tests, left, mark);
+          room = let left = done.0.0.0 in let mark = stands.mark in grind (arith, nat_tests, left, mark);
           slots_are = slots-are;
           node_is =
               is.1 ∙ ap (λ (l : LedgerView). new_node plan l base) ledger-is
               ∙ ap
               (λ (n : ℕ).
-              new_node plan (new_ledger st.file.slots (first_in st.file.list) (length st.file.list)) n) base-is;
+              new_node plan (new_ledger st.file.slots (first_in st.file) (length st.file.list)) n) base-is;
           clear =
               subst (λ (x : GemSpool D). IsClear members x.spool next) (sym is.0)
               (record {

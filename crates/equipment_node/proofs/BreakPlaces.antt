@@ -1,5 +1,6 @@
 -- Losses of a work, and those behind others.
-use Rattle.std.proofs.Common.{◌≡◌, refl, sym, ap, ◌∙◌, arith, suc, zero, Bool, true, false, ℕ, List, [], ◌∷◌, ◌++◌, append_assoc, drop, length, map, take, Some, if◌then◌else◌}
+use Rattle.std.proofs.Common.{◌≡◌, refl, sym, ap, ◌∙◌, arith, suc, zero, Bool, true, false, ℕ, List, [], ◌∷◌, ◌++◌}
+use Rattle.std.proofs.Common.{append_assoc, drop, length, map, take, Some, if◌then◌else◌}
 use Rattle.std.specs.Prelude.{slice_get}
 use Rattle.disk_base.specs.Faults.{DiskHealth}
 use Rattle.disk_base.specs.Story.{Story}
@@ -16,7 +17,6 @@ use Rattle.spool_works.specs.DiskWorks.DiskWork.{Change, ReadOldest, Reserve}
 use Rattle.tool_step.specs.Equipment.{EquipmentView}
 use Rattle.spool_works.specs.WorkLosses.{calls_at}
 use Rattle.tool_step.specs.Losses.{loss_at, losses_of}
-use Rattle.spool_works.specs.SpoolLosses.{work_calls}
 use Rattle.equipment_node.proofs.BrokenSteps.{call-map}
 use Rattle.equipment_node.proofs.Cutting.{split-change}
 
@@ -50,7 +50,7 @@ module _ (s : EquipmentView) where
   losses-read [] false st before notes = refl
   losses-read (one ∷ works) reads st before notes =
       let front = before ++ up_to_change notes in
-      ap (λ (rest : List (Loss EquipmentView)). map (loss_at s front) (work_calls st one) ++ rest)
+      ap (λ (rest : List (Loss EquipmentView)). map (loss_at s front) (calls_at st (Change one)) ++ rest)
       (losses-read works reads (standing_after st one) front (behind_change notes)
       ∙ ap
       (λ (all : List Happening).
@@ -59,7 +59,7 @@ module _ (s : EquipmentView) where
       (append_assoc before (up_to_change notes) (behind_change notes)
       ∙ ap (λ (all : List Happening). before ++ all) (split-change notes)))
       ∙ sym
-      (append_assoc (map (loss_at s front) (work_calls st one))
+      (append_assoc (map (loss_at s front) (calls_at st (Change one)))
       (losses_of s (standing_after st one) front (map Change works) (behind_change notes))
       (losses_of s (standings_after (standing_after st one) works) [] (read_by reads) (before ++ notes)))
 

@@ -1,5 +1,6 @@
 -- Which loss of a step is that of a call of one of its works.
-use Rattle.std.proofs.Common.{◌≡◌, refl, ap, subst, arith, zero, suc, ◌+◌, ℕ, List, [], ◌∷◌, ◌++◌, length, length-append, map, Some}
+use Rattle.std.proofs.Common.{◌≡◌, refl, ap, subst, arith, zero, suc, ◌+◌, ℕ, List, [], ◌∷◌, ◌++◌, length}
+use Rattle.std.proofs.Common.{length-append, map, Some}
 use Rattle.std.specs.Prelude.{slice_get}
 use Rattle.gem_spool.specs.Standing.{Standing}
 use Rattle.gem_spool.specs.Works.{standing_after, standings_after}
@@ -10,7 +11,8 @@ use Rattle.spool_works.specs.DiskWorks.{DiskWork, behind_change, fronts_of, up_t
 use Rattle.spool_works.specs.DiskWorks.DiskWork.{Change}
 use Rattle.tool_step.specs.Equipment.{EquipmentView}
 use Rattle.tool_step.specs.Losses.{loss_at, losses_of}
-use Rattle.spool_works.specs.SpoolLosses.{Left, work_calls}
+use Rattle.gem_spool.specs.Updates.{Left}
+use Rattle.spool_works.specs.WorkLosses.{calls_at}
 use Rattle.spool_works.proofs.CallPlaces.{call-before, call-behind}
 use Rattle.spool_works.proofs.BrokenList.{works_left}
 
@@ -41,7 +43,7 @@ pub record IsLossAt
 pub loss-of :
     (s : EquipmentView) (xs rest : List Work) (one : Work) (more : List DiskWork) (st : Standing)
     (before notes : List Happening) (call : ℕ) (left : Left)
-    → call_of call (work_calls (standings_after st xs) one) ≡ Some left
+    → call_of call (calls_at (standings_after st xs) (Change one)) ≡ Some left
     → IsLossAt s (losses_of s st before (map Change (xs ++ one ∷ rest) ++ more) notes)
     (length (works_left st xs) + call) (fronts_of before (map Change (xs ++ one ∷ rest) ++ more) notes) (length xs) left
 loss-of s [] rest one more st before notes call left is =
@@ -53,23 +55,23 @@ loss-of s [] rest one more st before notes call left is =
           subst
           (λ (k : ℕ).
           call_of k
-          (map (loss_at s front) (work_calls st one)
+          (map (loss_at s front) (calls_at st (Change one))
           ++ losses_of s (standing_after st one) front (map Change rest ++ more) (behind_change notes))
           ≡ Some (loss_at s front left)) same
-          (call-before (map (loss_at s front) (work_calls st one))
+          (call-before (map (loss_at s front) (calls_at st (Change one)))
           (losses_of s (standing_after st one) front (map Change rest ++ more) (behind_change notes)) call
-          (loss_at s front left) (call-map (loss_at s front) (work_calls st one) call left is));
+          (loss_at s front left) (call-map (loss_at s front) (calls_at st (Change one)) call left is));
       noted = refl;
     }
 loss-of s (x ∷ xs) rest one more st before notes call left is =
     let front = before ++ up_to_change notes in
     let at =
     loss-of s xs rest one more (standing_after st x) front (behind_change notes) call left is in
-    let long = map-long (loss_at s front) (work_calls st x) in
-    let both = length-append (work_calls st x) (works_left (standing_after st x) xs) in
-    let same : length (map (loss_at s front) (work_calls st x))
+    let long = map-long (loss_at s front) (calls_at st (Change x)) in
+    let both = length-append (calls_at st (Change x)) (works_left (standing_after st x) xs) in
+    let same : length (map (loss_at s front) (calls_at st (Change x)))
     + (length (works_left (standing_after st x) xs) + call)
-    ≡ length (work_calls st x ++ works_left (standing_after st x) xs) + call =
+    ≡ length (calls_at st (Change x) ++ works_left (standing_after st x) xs) + call =
     omega (arith, long, both) in
     record {
       front = at.front;
@@ -77,10 +79,10 @@ loss-of s (x ∷ xs) rest one more st before notes call left is =
           subst
           (λ (k : ℕ).
           call_of k
-          (map (loss_at s front) (work_calls st x)
+          (map (loss_at s front) (calls_at st (Change x))
           ++ losses_of s (standing_after st x) front (map Change (xs ++ one ∷ rest) ++ more) (behind_change notes))
           ≡ Some (loss_at s at.front left)) same
-          (call-behind (map (loss_at s front) (work_calls st x))
+          (call-behind (map (loss_at s front) (calls_at st (Change x)))
           (losses_of s (standing_after st x) front (map Change (xs ++ one ∷ rest) ++ more) (behind_change notes))
           (length (works_left (standing_after st x) xs) + call) (loss_at s at.front left) at.is);
       noted = at.noted;

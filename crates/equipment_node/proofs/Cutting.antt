@@ -1,11 +1,16 @@
 -- The notes up to the line of a work that failed are those of the definition.
-use Rattle.std.proofs.Common.{◌≡◌, refl, sym, ap, ◌∙◌, inl, inr, ◌⊎◌, zero, suc, Bool, true, false, ℕ, List, [], ◌∷◌, ◌++◌, append_assoc, length, map, Option, Some, None, if◌then◌else◌}
+use Rattle.std.proofs.Common.{◌≡◌, refl, sym, ap, ◌∙◌, inl, inr, ◌⊎◌, zero, suc, Bool, true, false, ℕ, List, [], ◌∷◌}
+use Rattle.std.proofs.Common.{◌++◌, append_assoc, length, map, Option, Some, None, if◌then◌else◌}
 use Rattle.std.specs.List.{cons_option, slice_get}
 use Rattle.gem_spool.specs.declared.works.Work.{Work}
 use Rattle.message_flow.specs.declared.step.Note.{Note}
 use Rattle.message_end.specs.Ends.{IsFront, printed}
 use Rattle.trace_log.specs.Log.{Happening, is_before_change}
-use Rattle.trace_log.specs.Log.Happening.{EquipmentStarted, HostStarted, Power, Closed, Sent, Received, Wrote, Comms, Control, Spool, Set, Event, Alarm, Carried, Display, Refused, Storing, Stored, Leaving, Gone, Try, Duplicate, Unexpected, Foreign, TooLongBlock, Crowded, DroppedByT4, Failed, TimedOut, Stranger, Dropped, Denied, Discarded, TooLong, Full, Recorded, StepEnded}
+use Rattle.trace_log.specs.Log.Happening.{EquipmentStarted, HostStarted, Power, Closed, Sent, Received, Wrote, Comms}
+use Rattle.trace_log.specs.Log.Happening.{Control, Spool, Set, Event, Alarm, Carried, Display, Refused, Storing, Stored}
+use Rattle.trace_log.specs.Log.Happening.{Leaving, Gone, Try, Duplicate, Unexpected, Foreign, TooLongBlock, Crowded}
+use Rattle.trace_log.specs.Log.Happening.{DroppedByT4, Failed, TimedOut, Stranger, Dropped, Denied, Discarded, TooLong}
+use Rattle.trace_log.specs.Log.Happening.{Full, Recorded, StepEnded}
 use Rattle.trace_log.specs.Text.{note_of, printed_note}
 use Rattle.equipment_node.specs.Cut.{cut_at, noted_to}
 use Rattle.spool_works.specs.DiskWorks.{DiskWork, behind_change, fronts_of, up_to_change}

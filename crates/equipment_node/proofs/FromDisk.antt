@@ -1,7 +1,9 @@
 -- That the equipment in a world goes on with its power, and that a start over what its disk was left with finds what
 -- the bytes say.
-use Rattle.std.proofs.Common.{◌≡◌, refl, sym, ap, subst, ◌∙◌, Bool, true, false, ℕ, [], ◌∷◌, List, length, Option, Some, None, if◌then◌else◌}
+use Rattle.std.proofs.Common.{◌≡◌, refl, sym, ap, subst, ◌∙◌, Bool, true, false, ℕ, ◌+◌, List, [], ◌∷◌, ◌++◌, length}
+use Rattle.std.proofs.Common.{Option, Some, None, if◌then◌else◌}
 use Rattle.std.specs.Prelude.{Result, Ok, Err}
+use Rattle.disk_base.specs.Calls.{DiskCall}
 use Rattle.disk_base.specs.Cut.{image_of, settled_before, settled_if}
 use Rattle.disk_base.specs.MemDisk.{DiskState, after_cut, disk_health}
 use Rattle.disk_base.specs.declared.cut.CutChoice.{CutChoice}
@@ -22,10 +24,15 @@ use Rattle.equipment_node.specs.declared.equipment.Starting.{Starting}
 use Rattle.tool_step.specs.End.{machine}
 use Rattle.tool_step.specs.Equipment.{EquipmentView, is_marked_out, started_on, starts}
 use Rattle.equipment_node.specs.Held.{Begins, HasBegunOn, Held, IsIn, view_in}
-use Rattle.equipment_node.specs.InMemory.{HasPower, IsLost, IsStartable, IsWhole, StartsAnew, anew_over, disk_of, file_cut, left_behind, planned_in, starts_over, state_in, stop_at_start, with_stop}
+use Rattle.equipment_node.specs.InMemory.{HasPower, IsLost, IsStartable, IsWhole, StartsAnew, anew_over, disk_of}
+use Rattle.equipment_node.specs.InMemory.{file_cut, left_behind, planned_in, starts_over, state_in, stop_at_start}
+use Rattle.equipment_node.specs.InMemory.{with_stop}
 use Rattle.tool_core.specs.Node.{node_of}
 use Rattle.tool_law.specs.Sound.{AllCanBeSent}
+use Rattle.equipment_node.specs.StartCalls.{start_calls}
 use Rattle.equipment_node.specs.StartOver.{IsSureDisk, KeepsSure}
+use Rattle.spool_works.specs.DiskCalls.{HasMade, with_calls}
+use Rattle.equipment_node.proofs.StartCalled.{start-long}
 use Rattle.equipment_node.proofs.Seated.{begun-ends, start-whole}
 
 -- where another call is planned it is the same equipment
@@ -108,6 +115,17 @@ start-plan plan file = go (is_marked_out file.mark.value)
     go true = refl
     go false = refl
 
+-- with as many slots as the file has
+start-slots :
+    (plan : EquipmentPlan) (file : SpoolFile) → (step_in (starts plan file)).next.file.slots ≡ file.slots
+start-slots plan file = go (is_marked_out file.mark.value)
+  where
+    go : (out : Bool)
+        → (step_in (if out then Spent (at_first (record (started_on plan file).next { file = file }))
+        else Goes (started_on plan file))).next.file.slots ≡ file.slots
+    go true = refl
+    go false = refl
+
 -- it doesn't go on
 pub not-anew :
     (plan : EquipmentPlan) (went : Went EquipmentView Happening) (going : Option (Held DiskState)) → going ≡ None
@@ -116,20 +134,40 @@ pub not-anew :
 not-anew plan went going gone out why leaves whole = record {
   start = leaves;
   whole = whole;
+  made = tt;
   planned = tt;
   sound = subst (λ (o : Option (Held DiskState)). IsWhole ghosts plan o None) (sym gone) tt;
 }
 
+-- on a disk that had made none it has made these calls alone
+made-on : (before now calls : List DiskCall) → before ≡ [] → Some now ≡ with_calls calls (Some before) → now ≡ calls
+made-on before now calls none listed =
+    some-same now (before ++ calls) listed ∙ ap (λ (all : List DiskCall). all ++ calls) none
+  where
+    some-same : (a b : List DiskCall) → Some a ≡ Some b → a ≡ b
+    some-same a b same = cc
+
 module _ (plan : EquipmentPlan) (disk : DiskState) (is : IsStartable disk) (out : StepOut) where
+  abbrev file : SpoolFile
+  file = file_in disk.story.now.bytes
+
   pub anew-on :
       (h : Held DiskState) → HasBegunOn ghosts plan disk.story.now.bytes out h
+      → HasMade ghosts disk h.spool.spool.disk (start_calls (file_in disk.story.now.bytes))
       → KeepsSure ghosts disk h.spool.spool.disk
       → StartsAnew ghosts plan (starts_over plan disk)
       (Some (with_stop (left_behind h.spool.spool.slots) h)) out (Ok tt)
-  anew-on h begun keeps =
+  anew-on h begun calls keeps =
       record {
         start = begun.gone;
         whole = tt;
+        made =
+            ap length (made-on disk.calls h.spool.spool.disk.calls (start_calls file) is.unasked calls.listed)
+            ∙ start-long file
+            ∙ ap (λ (slots : ℕ). slots + 7)
+            (sym (start-slots plan file)
+            ∙ ap (λ (went : Went EquipmentView Happening). (step_in went).next.file.slots) begun.gone.is
+            ∙ ap (λ (s : EquipmentView). s.file.slots) begun.gone.next_is);
         planned = seated-planned h (begun.can_go is.can);
         sound =
             seated-power h (begun.can_go is.can) plan (keeps is.sure)
@@ -152,6 +190,7 @@ module _ (plan : EquipmentPlan) (disk : DiskState) (is : IsStartable disk) (out 
 -- of a lost disk, whatever is chosen
 pub cut-startable : (lost : DiskState) → IsLost lost → (choice : CutChoice) → IsStartable (after_cut choice lost)
 cut-startable lost is choice = record {
+  unasked = refl;
   can = is.can choice;
   sure = record { fails_not = refl; stops_not = refl; going = refl };
 }

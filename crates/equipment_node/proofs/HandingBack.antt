@@ -1,12 +1,12 @@
 -- That each call hands back the device of its spool.
-use Rattle.std.proofs.Common.{◌≡◌, ◌≢◌, inl, inr, refl, sym, subst, ◌∙◌, ℕ, zero, suc, List, [], ◌∷◌, take, Option, Some, None}
+use Rattle.std.proofs.Common.{◌≡◌, ◌≢◌, inl, inr, refl, sym, subst, ◌∙◌, ℕ, List, [], ◌∷◌, take, Option, Some, None}
 use Rattle.std.specs.Prelude.{Result, Ok, Err}
 use Rattle.disk_base.specs.Faults.{Rose}
 use Rattle.disk_base.specs.SameDisk.{IsSameDisk}
 use Rattle.disk_base.specs.declared.disk.Disk as disk
 use Rattle.disk_base.specs.declared.disk.DiskAnswer.TheVariants.{Done, Failed}
 use Rattle.disk_base.proofs.Stretches.{same_then}
-use Rattle.gem_spool.specs.Spool.{DropsSome, ReservesFrom}
+use Rattle.gem_spool.specs.Spool.{ReservesFrom}
 use Rattle.gem_spool.specs.Works.{Does, DoesAll, HasCarried, HasUndone}
 use Rattle.gem_spool.specs.declared.spool.GemSpool.{GemSpool}
 use Rattle.gem_spool.specs.declared.works.Undone.{Undone}
@@ -14,7 +14,7 @@ use Rattle.gem_spool.specs.declared.works.Work.{Work}
 use Rattle.gem_spool.specs.declared.works.Work.TheVariants as work
 use Rattle.message_flow.specs.declared.step.Note.{Note}
 use Rattle.message_flow.specs.declared.step.StepOut.{StepOut}
-use Rattle.spool_slots.specs.Changes.{HasLooked, HasRecovered, Recovers, Reserves}
+use Rattle.spool_slots.specs.Changes.{Clears, HasLooked, HasRecovered, Recovers, Reserves}
 use Rattle.spool_slots.specs.Spool.{SpoolView}
 use Rattle.spool_slots.specs.declared.states.Recovering.{Recovering}
 use Rattle.spool_slots.specs.declared.states.Recovering.TheVariants as recovering
@@ -83,24 +83,24 @@ module _ {D : Type 0} (members : disk.Ghosts D) where
 
   -- ---- a work
 
-  dropped-same : (n : ℕ) (v w : SpoolView D) → DropsSome members n v w → Same v.disk w.disk
-  dropped-same zero v w is = subst (λ (x : SpoolView D). Same v.disk x.disk) (sym is) (same-still v.disk)
-  dropped-same (suc n) v w (u, first, last) = same_then (dropped-same n v u first) last.0.disk.same_disk
+  cleared-same : (v w : SpoolView D) → Clears members v (Ok w) → Same v.disk w.disk
+  cleared-same v w (inl (none, same, empty)) =
+      subst (λ (x : SpoolView D). Same v.disk x.disk) (sym same) (same-still v.disk)
+  cleared-same v w (inr (moves, is)) = moves.1.0.same_disk
 
   work-same : (g h : GemSpool D) (one : Work) → Does members g one (Ok h) → Same g.spool.disk h.spool.disk
   work-same g h (work.Put stream function body) does =
-      let both = does.1 in same_then both.1.0.disk.same_disk both.2.0.disk.same_disk
+      let both = does.1 in same_then both.1.0.same_disk both.2.0.disk.same_disk
   work-same g h work.DropOldest does = does.0.0.disk.same_disk
-  work-same g h work.Purge does = dropped-same g.spool.len g.spool h.spool does.0.1
+  work-same g h work.Purge does = cleared-same g.spool h.spool does.0
 
   work-failed-same :
       (g : GemSpool D) (spent : Spent D) (one : Work) → Does members g one (Err spent) → Same g.spool.disk spent.disk
-  work-failed-same g spent (work.Put stream function body) (put, inl staged, lost) = staged.disk.same_disk
-  work-failed-same g spent (work.Put stream function body) (put, inr (u, staged, sealed), lost) =
-      same_then staged.0.disk.same_disk sealed.0.disk.same_disk
+  work-failed-same g spent (work.Put stream function body) (put, inl staged) = staged.0.same_disk
+  work-failed-same g spent (work.Put stream function body) (put, inr (u, staged, sealed)) =
+      same_then staged.0.same_disk sealed.0.disk.same_disk
   work-failed-same g spent work.DropOldest does = does.0.disk.same_disk
-  work-failed-same g spent work.Purge (purged, (n, u, first, last, lost)) =
-      same_then (dropped-same n g.spool u first) last.0.disk.same_disk
+  work-failed-same g spent work.Purge does = does.1.0.same_disk
 
   works-same : (works : List Work) (g h : GemSpool D) → DoesAll members g works h → Same g.spool.disk h.spool.disk
   works-same [] g h is = subst (λ (x : GemSpool D). Same g.spool.disk x.spool.disk) (sym is) (same-still g.spool.disk)
@@ -134,13 +134,13 @@ module _ {D : Type 0} (members : disk.Ghosts D) where
 
   pub reserved-back : (g h : GemSpool D) (base : Option ℕ) → ReservesFrom members g h base
       → IsKept members g.spool.disk h.spool.disk
-  reserved-back g h (Some base) done = record { same_disk = done.0.0.same_disk; count = done.0.0.cause.same }
+  reserved-back g h (Some base) done = record { same_disk = done.0.0.1.0.same_disk; count = done.0.0.1.0.cause.same }
   reserved-back g h None done =
       subst (λ (x : GemSpool D). IsKept members g.spool.disk x.spool.disk) (sym done.0) (kept-still g.spool.disk)
 
   pub unreserved-back : (g : GemSpool D) (spent : Spent D) → Reserves members g.spool (Err (reserving.Failed spent))
       → HasFailed members g.spool.disk spent.disk
-  unreserved-back g spent done = record { same_disk = done.0.same_disk; rose = done.0.cause.rose }
+  unreserved-back g spent done = record { same_disk = done.1.0.same_disk; rose = done.1.0.cause.rose }
 
   pub looked-back : (v w : SpoolView D) (k : ℕ) → HasLooked members v w k Done → IsKept members v.disk w.disk
   looked-back v w k looked = record { same_disk = looked.same_disk; count = looked.cause.same }
@@ -178,8 +178,8 @@ module _ {D : Type 0} (members : disk.Ghosts D) where
       (old : D) (why : Recovering D) → Recovers members old (Err why)
       → StartHandsBack members old (Err (starting_by why))
   untaken-back old (recovering.NotSpool raw break) is = recovered-back old raw.disk _ is.0
-  untaken-back old (recovering.Failed spent) (inl is) = record { same_disk = is.same_disk; rose = is.cause.rose }
-  untaken-back old (recovering.Failed spent) (inr is) = unread-back old spent.disk _ is
+  untaken-back old (recovering.Failed spent) (inl is, by) = record { same_disk = is.same_disk; rose = is.cause.rose }
+  untaken-back old (recovering.Failed spent) (inr is, by) = unread-back old spent.disk _ is
 
   pub seated-back :
       (plan : EquipmentPlan) (g : GemSpool D) (base : ℕ) (out after : StepOut) (result : Result (Held D) (Starting D))

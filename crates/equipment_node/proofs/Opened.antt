@@ -1,5 +1,6 @@
 -- That system bytes are reserved as a step begins.
-use Rattle.std.proofs.Common.{◌≡◌, refl, sym, ap, subst, ◌∙◌, arith, ◌+◌, ◌-◌, ◌^◌, ◌≤◌, nat_le, nat_lt, ◌&&◌, not, ◌∷◌, Bool, true, false, ℕ, List, [], Option, Some, None, if◌then◌else◌}
+use Rattle.std.proofs.Common.{◌≡◌, refl, sym, ap, subst, ◌∙◌, arith, ◌+◌, ◌-◌, ◌^◌, ◌≤◌, nat_le, nat_lt, ◌&&◌, not, ◌∷◌}
+use Rattle.std.proofs.Common.{Bool, true, false, ℕ, List, [], Option, Some, None, if◌then◌else◌}
 use Rattle.std.proofs.lemmas.Bool.Decides.{nat_tests}
 use Rattle.disk_base.specs.Story.{Story}
 use Rattle.disk_base.specs.Through.{EachImage, GoesThrough}
@@ -94,7 +95,7 @@ module _ {D : Type 0} (members : disk.Ghosts D) (s : EquipmentView) where
       let through = moments told.0 told.1 in
       record {
         went =
-            reserving-by true false needs (room-left g clear done.0.0.left)
+            reserving-by true false needs (room-left g clear done.0.0.0)
             ∙ ap (λ (x : EquipmentView). Goes (at_first x)) (sym same);
         node_is = node_is ∙ ap (λ (x : EquipmentView). x.node) (sym same);
         clear =

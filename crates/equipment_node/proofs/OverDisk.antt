@@ -1,5 +1,6 @@
 -- What was begun over the disk, and what comes of it.
-use Rattle.std.proofs.Common.{◌≡◌, refl, sym, ap, subst, ◌∙◌, arith, zero, suc, ◌≤◌, Bool, ℕ, List, [], ◌∷◌, ◌++◌, length, map, take, Option, Some, None, is_some, if◌then◌else◌}
+use Rattle.std.proofs.Common.{◌≡◌, inl, refl, sym, ap, subst, ◌∙◌, arith, zero, suc, ◌≤◌, Bool, ℕ, List, [], ◌∷◌, ◌++◌}
+use Rattle.std.proofs.Common.{length, map, take, Option, Some, None, is_some, if◌then◌else◌}
 use Rattle.std.specs.Prelude.{Result, Ok, Err}
 use Rattle.std.specs.List.{slice_get}
 use Rattle.disk_base.specs.Through.{EachImage}
@@ -26,19 +27,24 @@ use Rattle.spool_ledger.specs.declared.unload.Unload.{Unload}
 use Rattle.spool_works.specs.declared.ended.Ended.{Ended}
 use Rattle.spool_works.specs.declared.ended.Ended.TheVariants as ended
 use Rattle.tool_step.specs.declared.kind.Kind.{Kind}
-use Rattle.equipment_node.specs.Amid.{Acts, Carries, EndsSo, HasCut, IsAt, IsBegun, IsBegunSpent, Opens, opened, settled_node}
+use Rattle.equipment_node.specs.Amid.{Acts, Carries, EndsSo, HasCut, IsAt, IsBegun, IsBegunSpent, Opens, opened}
+use Rattle.equipment_node.specs.Amid.{settled_node}
 use Rattle.equipment_node.specs.Cut.{cut_at, noted_to}
 use Rattle.spool_works.specs.DiskWorks.{DiskWork, IsAmidWork, fronts_of, standings_behind}
-use Rattle.tool_step.specs.Disk.{owed_in, read_works, reserve_works, standing_in, stops, takes_up, works_behind, works_of}
+use Rattle.tool_step.specs.Disk.{owed_in, read_works, reserve_works, standing_in, stops, takes_up, works_behind}
+use Rattle.tool_step.specs.Disk.{works_of}
 use Rattle.spool_works.specs.DiskWorks.DiskWork.{Change, ReadOldest, Reserve}
-use Rattle.tool_step.specs.Equipment.{EquipmentView, act, begun_step, ended_step, node_step, oldest_of, parts_done, reserving, settled, settled_file, settled_step, settled_went, went_with_file}
+use Rattle.tool_step.specs.Equipment.{EquipmentView, act, begun_step, ended_step, node_step, oldest_of, parts_done}
+use Rattle.tool_step.specs.Equipment.{reserving, settled, settled_file, settled_step, settled_went, went_with_file}
 use Rattle.tool_step.proofs.StepFiles.{settled-slots}
 use Rattle.tool_step.specs.Left as left
 use Rattle.tool_step.specs.Own.{OwnView, ToolPart}
 use Rattle.tool_step.specs.Step.{first_parts, last_parts}
 use Rattle.equipment_node.specs.Stepping.{IsClear, IsTold}
 use Rattle.equipment_node.proofs.Cutting.{change-front, cut-noted, noted-front, read-front}
-use Rattle.equipment_node.proofs.OnDisk.{get-has, get-front, get-behind, get-changed, map-long, kept-of, take-all, settled-standing, settled-long, place_of, reserves, is_reserving, placed, placed-front, standings-change, placed-standing, opened-standing}
+use Rattle.equipment_node.proofs.OnDisk.{get-has, get-front, get-behind, get-changed, map-long, kept-of, take-all}
+use Rattle.equipment_node.proofs.OnDisk.{settled-standing, settled-long, place_of, reserves, is_reserving, placed}
+use Rattle.equipment_node.proofs.OnDisk.{placed-front, standings-change, placed-standing, opened-standing}
 
 -- ---- what was begun, and what comes of it
 
@@ -352,8 +358,10 @@ module _ {D : Type 0} (members : disk.Ghosts D) (s : EquipmentView) (input : Inp
           front_is = front-is;
           notes = notes ∙ ends.1;
           left =
-              subst (λ (st : Standing). EachImage (λ image. StandsFor image st.file) t.now) (sym at-end)
-              (ends.2 t told);
+              λ image at.
+              inl
+              (subst (λ (st : Standing). EachImage (λ image. StandsFor image st.file) t.now) (sym at-end)
+              (ends.2 t told) image at);
         },
       )
         where

@@ -1,5 +1,6 @@
 -- How the spool stands behind some works of a step, and that no call of a sure disk fails.
-use Rattle.std.proofs.Common.{◌≡◌, refl, sym, ap, subst, ◌∙◌, arith, ◌+◌, ◌-◌, Bool, true, false, ℕ, List, [], ◌∷◌, map, Some, if◌then◌else◌}
+use Rattle.std.proofs.Common.{◌≡◌, refl, sym, ap, subst, ◌∙◌, arith, ◌+◌, ◌-◌, Bool, true, false, ℕ, List, [], ◌∷◌, map}
+use Rattle.std.proofs.Common.{Some, if◌then◌else◌}
 use Rattle.std.specs.Prelude.{IfOk, Result, Ok, Err}
 use Rattle.disk_base.specs.Faults.{DiskHealth, IsUsed}
 use Rattle.disk_base.specs.declared.disk.Disk as disk
@@ -42,7 +43,7 @@ pub start-sure :
     → IfOk result (λ (e : Held D). KeepsSure members g.spool.disk e.spool.spool.disk)
 start-sure {D} members g h base reserves plan other out_old out_new (Ok e) starts =
     subst (λ (k : GemSpool D). KeepsSure members g.spool.disk k.spool.disk) (sym starts.0)
-    (used-sure (members.health g.spool.disk) (members.health h.spool.disk) 5 9 reserves.0.0.cause)
+    (used-sure (members.health g.spool.disk) (members.health h.spool.disk) 5 9 reserves.0.0.1.0.cause)
 start-sure members g h base reserves plan other out_old out_new (Err end) starts = tt
 
 pub changes-stand :

@@ -1,12 +1,13 @@
 -- That a step over a disk that stops breaks at the planned call.
-use Rattle.std.proofs.Common.{◌≡◌, refl, sym, ap, subst, ◌∙◌, suc, ◌+◌, ◌&&◌, not, Bool, true, false, ℕ, List, [], ◌∷◌, ◌++◌, append-nil, drop, length, map, take, Option, Some, None, is_some}
+use Rattle.std.proofs.Common.{◌≡◌, refl, sym, ap, subst, ◌∙◌, suc, ◌+◌, ◌&&◌, not, Bool, true, false, ℕ, List, [], ◌∷◌}
+use Rattle.std.proofs.Common.{◌++◌, append-nil, drop, length, map, take, Option, Some, None, is_some}
 use Rattle.std.specs.Prelude.{Result, Ok, Err, slice_get}
 use Rattle.disk_base.specs.declared.disk.Disk as disk
 use Rattle.disk_base.specs.declared.disk.DiskAnswer.TheVariants.{Done, Failed}
 use Rattle.gem_spool.specs.declared.spool.GemSpool.{GemSpool}
 use Rattle.gem_spool.specs.declared.works.Work.{Work}
 use Rattle.gem_spool.specs.Spool.{ReservesFrom}
-use Rattle.gem_spool.specs.Standing.{Standing, Stands, count_in, count_of}
+use Rattle.gem_spool.specs.Standing.{Standing, Stands, count_of}
 use Rattle.gem_spool.specs.Works.{HasCarried, counts_after, standings_after}
 use Rattle.message_flow.specs.declared.step.Note.{Note}
 use Rattle.message_flow.specs.declared.step.StepOut.{StepOut}
@@ -34,7 +35,8 @@ use Rattle.spool_works.specs.DiskWorks.{DiskWork, fronts_of, standings_behind}
 use Rattle.tool_step.specs.Disk.{read_works, reserve_works, standing_in, takes_up, works_behind}
 use Rattle.spool_works.specs.DiskWorks.DiskWork.{Change, ReadOldest, Reserve}
 use Rattle.spool_works.specs.DiskCalls.{disk_in}
-use Rattle.tool_step.specs.Equipment.{EquipmentView, begun_step, is_marked_out, needs_numbers, reserving as opening, settled, settled_step}
+use Rattle.tool_step.specs.Equipment.{EquipmentView, begun_step, is_marked_out, needs_numbers, reserving as opening}
+use Rattle.tool_step.specs.Equipment.{settled, settled_step}
 use Rattle.tool_step.proofs.LossCalls.{losses-count}
 use Rattle.tool_step.specs.Losses.{loss_at, losses, losses_of}
 use Rattle.tool_step.specs.Own.{OwnView, ToolPart}
@@ -50,7 +52,8 @@ use Rattle.equipment_node.proofs.Opened.{mark-failed}
 use Rattle.equipment_node.proofs.OverDisk.{done-standing, takes-settled}
 use Rattle.spool_works.proofs.RoomKept.{room-kept}
 use Rattle.equipment_node.proofs.StepCalls.{none-left, none-needed, none-owed}
-use Rattle.equipment_node.proofs.BreakPlaces.{broken-of, read_by, losses-read, losses-reserve, parted, taken, front-inj, same-passed}
+use Rattle.equipment_node.proofs.BreakPlaces.{broken-of, read_by, losses-read, losses-reserve, parted, taken, front-inj}
+use Rattle.equipment_node.proofs.BreakPlaces.{same-passed}
 
 -- ---- over a disk
 
@@ -102,8 +105,8 @@ module _ {D : Type 0} (members : disk.Ghosts D) where
       reserved-breaks h base done =
           subst
           (λ (works : List DiskWork). Passes members g.spool.disk (reserve_losses works) h.spool.disk)
-          (sym (mark-failed members s g needs clear done.0.0.left))
-          (λ on. used-passes (members.health g.spool.disk) (members.health h.spool.disk) 5 9 done.0.0.cause on)
+          (sym (mark-failed members s g needs clear done.0.0.0))
+          (λ on. used-passes (members.health g.spool.disk) (members.health h.spool.disk) 5 9 done.0.0.1.0.cause on)
 
       pub marked-out-breaks :
           (h : GemSpool D) (spent : Device D) → IsTold (members.told g.spool.disk)
@@ -120,11 +123,12 @@ module _ {D : Type 0} (members : disk.Ghosts D) where
   -- they were all done
   pub carried-passes :
       (s : EquipmentView) (g h : GemSpool D) (works : List Work) (st : Standing) (notes : List Happening)
-      → count_of g.spool ≡ count_in st → HasCarried members g works h
+      → Stands members g.spool st → IsTold (members.told g.spool.disk) → HasCarried members g works h
       → Passes members g.spool.disk (losses_of s st [] (map Change works) notes) h.spool.disk
-  carried-passes s g h works st notes count carried on =
+  carried-passes s g h works st notes stands told carried on =
       subst (λ (n : ℕ). HasPassed (members.health g.spool.disk) (members.health h.spool.disk) n)
-      ((carried.goes_on.are st count).0 ∙ calls-change st works ∙ sym (losses-count s (map Change works) st [] notes))
+      ((carried.goes_on.are st stands told.0 told.1).0 ∙ calls-change st works
+      ∙ sym (losses-count s (map Change works) st [] notes))
       (used-passes (members.health g.spool.disk) (members.health h.spool.disk) carried.goes_on.made
       carried.goes_on.wrote carried.goes_on.cause on)
 
@@ -156,11 +160,11 @@ module _ {D : Type 0} (members : disk.Ghosts D) where
   reserve-breaks s g spent notes needs clear told done noted goes =
       subst
       (λ (works : List DiskWork). BreaksAt members g.spool.disk (reserve_losses s works) spent.disk notes)
-      (sym (mark-failed members s g needs clear done.0.left))
+      (sym (mark-failed members s g needs clear done.0))
       (λ t new images stopped free.
       broken-of s Reserve (standing_in s) [] (members.health g.spool.disk).stop_in t notes noted
       (reserve-left members g.spool (standing_in s) spent told.0 t clear.stands told.1 new images goes
-      (room-kept (members.health g.spool.disk) (members.health spent.disk) 5 _ done.0.cause free) done))
+      (room-kept (members.health g.spool.disk) (members.health spent.disk) 5 _ done.1.0.cause free) done))
 
   -- as the oldest message was read
   pub look-breaks :
@@ -284,113 +288,116 @@ module _ {D : Type 0} (members : disk.Ghosts D) where
         (losses_of s (standings_behind (standing_in s) (reserve_works s)) [] behind noted) notes (breaks on))
     unopened-breaks old notes node (ended.NoMemory spent) owes opens breaks = tt
 
-    module _ (g : GemSpool D) (clear : IsClear members g.spool (opened s)) where
-      abbrev stood : Standing
-      stood = standing_in (opened s)
+    module _ (g : GemSpool D) (clear : IsClear members g.spool (opened s)) (told : IsTold (members.told g.spool.disk))
+      where
+        abbrev stood : Standing
+        stood = standing_in (opened s)
 
-      abbrev behind_losses : Went EquipmentView Happening → List (Loss EquipmentView)
-      behind_losses w = losses_of s stood [] (works_behind w) (step_in w).notes
+        abbrev behind_losses : Went EquipmentView Happening → List (Loss EquipmentView)
+        behind_losses w = losses_of s stood [] (works_behind w) (step_in w).notes
 
-      -- the works, and what comes behind them
-      pub behind-breaks :
-          (went : opening s ≡ Goes (at_first (opened s))) (h : GemSpool D) (node : Node OwnView Kind) (out : StepOut)
-          (begun : IsBegun s input now node out) (notes : List Note) (result : Result (GemSpool D) (Ended D))
-          → count_of g.spool ≡ stood_count node.own.ledger
-          → counts_after (stood_count node.own.ledger) node.own.ledger.works ≡ stood_count (carried_out node.own.ledger)
-          → HasCarried members g node.own.ledger.works h
-          → BreaksBy members disk_in h.spool.disk
-          (losses_of s (standing_in (settled begun.step.next)) [] (read_works (Goes (settled_step begun.step)))
-          begun.step.notes) notes result
-          → BreaksBy members disk_in g.spool.disk (behind_losses (begun_step s input now)) notes result
-      behind-breaks went h node out begun notes result count come carried last =
-          subst
-          (λ (w : Went EquipmentView Happening). BreaksBy members disk_in g.spool.disk (behind_losses w) notes result)
-          (sym begun.is)
-          (subst
-          (λ (all : List (Loss EquipmentView)). BreaksBy members disk_in g.spool.disk all notes result)
-          (sym (losses-read s works reads stood [] begun.step.notes))
-          (breaks-then g.spool.disk h.spool.disk (losses_of s stood [] (map Change works) begun.step.notes)
-          (losses_of s (standings_after stood works) [] (read_by reads) begun.step.notes) notes result
-          (carried-passes s g h works stood begun.step.notes clear.stands.count carried-is)
-          (subst
-          (λ (x : Standing).
-          BreaksBy members disk_in h.spool.disk (losses_of s x [] (read_by reads) begun.step.notes) notes result)
-          (sym standing)
-          (subst
-          (λ (b : Bool).
-          BreaksBy members disk_in h.spool.disk
-          (losses_of s (standing_in (settled begun.step.next)) [] (read_by b) begun.step.notes) notes result)
-          (takes-settled members s input now begun.step.next) last))))
-        where
-          ledger-is : node.own.ledger ≡ begun.step.next.node.own.ledger
-          ledger-is = ap (λ (n : Node OwnView Kind). n.own.ledger) (sym begun.node_is)
+        -- the works, and what comes behind them
+        pub behind-breaks :
+            (went : opening s ≡ Goes (at_first (opened s))) (h : GemSpool D) (node : Node OwnView Kind) (out : StepOut)
+            (begun : IsBegun s input now node out) (notes : List Note) (result : Result (GemSpool D) (Ended D))
+            → count_of g.spool ≡ stood_count node.own.ledger
+            → counts_after (stood_count node.own.ledger) node.own.ledger.works
+            ≡ stood_count (carried_out node.own.ledger)
+            → HasCarried members g node.own.ledger.works h
+            → BreaksBy members disk_in h.spool.disk
+            (losses_of s (standing_in (settled begun.step.next)) [] (read_works (Goes (settled_step begun.step)))
+            begun.step.notes) notes result
+            → BreaksBy members disk_in g.spool.disk (behind_losses (begun_step s input now)) notes result
+        behind-breaks went h node out begun notes result count come carried last =
+            subst
+            (λ (w : Went EquipmentView Happening). BreaksBy members disk_in g.spool.disk (behind_losses w) notes result)
+            (sym begun.is)
+            (subst
+            (λ (all : List (Loss EquipmentView)). BreaksBy members disk_in g.spool.disk all notes result)
+            (sym (losses-read s works reads stood [] begun.step.notes))
+            (breaks-then g.spool.disk h.spool.disk (losses_of s stood [] (map Change works) begun.step.notes)
+            (losses_of s (standings_after stood works) [] (read_by reads) begun.step.notes) notes result
+            (carried-passes s g h works stood begun.step.notes clear.stands told carried-is)
+            (subst
+            (λ (x : Standing).
+            BreaksBy members disk_in h.spool.disk (losses_of s x [] (read_by reads) begun.step.notes) notes result)
+            (sym standing)
+            (subst
+            (λ (b : Bool).
+            BreaksBy members disk_in h.spool.disk
+            (losses_of s (standing_in (settled begun.step.next)) [] (read_by b) begun.step.notes) notes result)
+            (takes-settled members s input now begun.step.next) last))))
+          where
+            ledger-is : node.own.ledger ≡ begun.step.next.node.own.ledger
+            ledger-is = ap (λ (n : Node OwnView Kind). n.own.ledger) (sym begun.node_is)
 
-          works : List Work
-          works = begun.step.next.node.own.ledger.works
+            works : List Work
+            works = begun.step.next.node.own.ledger.works
 
-          reads : Bool
-          reads =
-              is_some (next_number (most_transmitted begun.step.next.node.own.tables) begun.step.next.node.own.ledger)
+            reads : Bool
+            reads =
+                is_some (next_number (most_transmitted begun.step.next.node.own.tables) begun.step.next.node.own.ledger)
 
-          carried-is : HasCarried members g works h
-          carried-is = subst (λ (l : LedgerView). HasCarried members g l.works h) ledger-is carried
+            carried-is : HasCarried members g works h
+            carried-is = subst (λ (l : LedgerView). HasCarried members g l.works h) ledger-is carried
 
-          standing : standings_after stood works ≡ standing_in (settled begun.step.next)
-          standing =
-              done-standing members s input now went (Goes begun.step) begun.is g h clear
-              (count ∙ ap stood_count ledger-is)
-              (subst (λ (l : LedgerView). counts_after (stood_count l) l.works ≡ stood_count (carried_out l)) ledger-is
-              come)
-              begun.file
+            standing : standings_after stood works ≡ standing_in (settled begun.step.next)
+            standing =
+                done-standing members s input now went (Goes begun.step) begun.is g h clear
+                (count ∙ ap stood_count ledger-is)
+                (subst (λ (l : LedgerView). counts_after (stood_count l) l.works ≡ stood_count (carried_out l))
+                ledger-is
+                come)
+                begun.file
 
-      -- a number was wanting, and the works were done
-      pub spent-breaks :
-          (h : GemSpool D) (node : Node OwnView Kind) (out : StepOut) (begun : IsBegunSpent s input now node out)
-          (notes : List Note) (spent : Device D) → HasCarried members g node.own.ledger.works h
-          → spent.disk ≡ h.spool.disk
-          → BreaksBy members disk_in g.spool.disk (behind_losses (begun_step s input now)) notes
-          (Err (ended.NumbersSpent spent))
-      spent-breaks h node out begun notes spent carried same =
-          subst (λ (w : Went EquipmentView Happening). Passes members g.spool.disk (behind_losses w) spent.disk)
-          (sym begun.is)
-          (subst (λ (all : List (Loss EquipmentView)). Passes members g.spool.disk all spent.disk)
-          (sym (losses-read s works false stood [] begun.step.notes))
-          (passes-both members g.spool.disk h.spool.disk spent.disk
-          (losses_of s stood [] (map Change works) begun.step.notes) []
-          (carried-passes s g h works stood begun.step.notes clear.stands.count
-          (subst (λ (l : LedgerView). HasCarried members g l.works h) (sym begun.ledger) carried))
-          (passes-none h.spool.disk spent.disk same)))
-        where
-          works : List Work
-          works = begun.step.next.node.own.ledger.works
+        -- a number was wanting, and the works were done
+        pub spent-breaks :
+            (h : GemSpool D) (node : Node OwnView Kind) (out : StepOut) (begun : IsBegunSpent s input now node out)
+            (notes : List Note) (spent : Device D) → HasCarried members g node.own.ledger.works h
+            → spent.disk ≡ h.spool.disk
+            → BreaksBy members disk_in g.spool.disk (behind_losses (begun_step s input now)) notes
+            (Err (ended.NumbersSpent spent))
+        spent-breaks h node out begun notes spent carried same =
+            subst (λ (w : Went EquipmentView Happening). Passes members g.spool.disk (behind_losses w) spent.disk)
+            (sym begun.is)
+            (subst (λ (all : List (Loss EquipmentView)). Passes members g.spool.disk all spent.disk)
+            (sym (losses-read s works false stood [] begun.step.notes))
+            (passes-both members g.spool.disk h.spool.disk spent.disk
+            (losses_of s stood [] (map Change works) begun.step.notes) []
+            (carried-passes s g h works stood begun.step.notes clear.stands told
+            (subst (λ (l : LedgerView). HasCarried members g l.works h) (sym begun.ledger) carried))
+            (passes-none h.spool.disk spent.disk same)))
+          where
+            works : List Work
+            works = begun.step.next.node.own.ledger.works
 
-      -- the disk failed at one of them
-      pub behind-broken :
-          (node : Node OwnView Kind) (out after : StepOut) (begun : IsBegun s input now node out) (end : Ended D)
-          → IsTold (members.told g.spool.disk) → Carries members g node.own.ledger.works out after (Err end)
-          → BreaksBy members disk_in g.spool.disk (behind_losses (begun_step s input now)) after.notes (Err end)
-      behind-broken node out after begun end told cut =
-          subst
-          (λ (w : Went EquipmentView Happening).
-          BreaksBy members disk_in g.spool.disk (behind_losses w) after.notes (Err end))
-          (sym begun.is)
-          (carry-breaks s g begun.step.next.node.own.ledger.works (takes_up begun.step.next.node.own) stood
-          begun.step.notes out after end clear.stands told begun.notes
-          (subst (λ (n : Node OwnView Kind). Carries members g n.own.ledger.works out after (Err end))
-          (sym begun.node_is) cut))
+        -- the disk failed at one of them
+        pub behind-broken :
+            (node : Node OwnView Kind) (out after : StepOut) (begun : IsBegun s input now node out) (end : Ended D)
+            → Carries members g node.own.ledger.works out after (Err end)
+            → BreaksBy members disk_in g.spool.disk (behind_losses (begun_step s input now)) after.notes (Err end)
+        behind-broken node out after begun end cut =
+            subst
+            (λ (w : Went EquipmentView Happening).
+            BreaksBy members disk_in g.spool.disk (behind_losses w) after.notes (Err end))
+            (sym begun.is)
+            (carry-breaks s g begun.step.next.node.own.ledger.works (takes_up begun.step.next.node.own) stood
+            begun.step.notes out after end clear.stands told begun.notes
+            (subst (λ (n : Node OwnView Kind). Carries members g n.own.ledger.works out after (Err end))
+            (sym begun.node_is) cut))
 
-      pub spent-broken :
-          (node : Node OwnView Kind) (out after : StepOut) (begun : IsBegunSpent s input now node out) (end : Ended D)
-          → IsTold (members.told g.spool.disk) → Carries members g node.own.ledger.works out after (Err end)
-          → BreaksBy members disk_in g.spool.disk (behind_losses (begun_step s input now)) after.notes (Err end)
-      spent-broken node out after begun end told cut =
-          subst
-          (λ (w : Went EquipmentView Happening).
-          BreaksBy members disk_in g.spool.disk (behind_losses w) after.notes (Err end))
-          (sym begun.is)
-          (carry-breaks s g begun.step.next.node.own.ledger.works false stood begun.step.notes out after end
-          clear.stands told begun.notes
-          (subst (λ (l : LedgerView). Carries members g l.works out after (Err end)) (sym begun.ledger) cut))
+        pub spent-broken :
+            (node : Node OwnView Kind) (out after : StepOut) (begun : IsBegunSpent s input now node out) (end : Ended D)
+            → Carries members g node.own.ledger.works out after (Err end)
+            → BreaksBy members disk_in g.spool.disk (behind_losses (begun_step s input now)) after.notes (Err end)
+        spent-broken node out after begun end cut =
+            subst
+            (λ (w : Went EquipmentView Happening).
+            BreaksBy members disk_in g.spool.disk (behind_losses w) after.notes (Err end))
+            (sym begun.is)
+            (carry-breaks s g begun.step.next.node.own.ledger.works false stood begun.step.notes out after end
+            clear.stands told begun.notes
+            (subst (λ (l : LedgerView). Carries members g l.works out after (Err end)) (sym begun.ledger) cut))
 
   -- ---- the next message is asked for, or none
 

@@ -1,5 +1,7 @@
 -- That the calls of the disk in a step are those of its works.
-use Rattle.std.proofs.Common.{◌≡◌, refl, sym, ap, subst, ◌∙◌, arith, ℕ, zero, suc, ◌<◌, ◌==◌, ◌&&◌, ◌||◌, nat_le, nat_lt, not, Bool, true, false, List, [], ◌∷◌, ◌++◌, append_assoc, length, map, Option, Some, None, is_some, if◌then◌else◌}
+use Rattle.std.proofs.Common.{◌≡◌, refl, sym, ap, subst, ◌∙◌, arith, ℕ, zero, suc, ◌<◌, ◌==◌, ◌&&◌, ◌||◌, nat_le}
+use Rattle.std.proofs.Common.{nat_lt, not, Bool, true, false, List, [], ◌∷◌, ◌++◌, append_assoc, length, map, Option}
+use Rattle.std.proofs.Common.{Some, None, is_some, if◌then◌else◌}
 use Rattle.std.proofs.lemmas.Bool.Decides.{nat_tests}
 use Rattle.std.specs.Prelude.{Result, Ok, Err, is_none}
 use Rattle.disk_base.specs.Calls.{DiskCall}
@@ -9,7 +11,7 @@ use Rattle.gem_spool.specs.declared.count.Count.{Count}
 use Rattle.gem_spool.specs.declared.spool.GemSpool.{GemSpool}
 use Rattle.gem_spool.specs.declared.works.Work.{Work}
 use Rattle.gem_spool.specs.Spool.{ReservesFrom}
-use Rattle.gem_spool.specs.Standing.{Standing, count_in, count_of}
+use Rattle.gem_spool.specs.Standing.{Standing, Stands, count_in, count_of}
 use Rattle.gem_spool.specs.Works.{HasCarried, counts_after, standings_after}
 use Rattle.message_flow.specs.declared.step.StepOut.{StepOut}
 use Rattle.spool_slots.specs.Changes.{HasLooked, Reserves}
@@ -33,13 +35,16 @@ use Rattle.equipment_node.specs.Amid.{Carries, DoesLast, IsBegun, IsBegunSpent, 
 use Rattle.spool_works.specs.DiskWorks.{DiskWork, standing_behind, standings_behind}
 use Rattle.tool_step.specs.Disk.{read_works, reserve_works, standing_in, works_behind, works_of}
 use Rattle.spool_works.specs.DiskWorks.DiskWork.{Change, ReadOldest, Reserve}
-use Rattle.spool_works.specs.DiskCalls.{HasBegunWorks, HasCalled, HasFailedIn, HasMade, all_disk_calls, disk_calls, disk_in}
-use Rattle.tool_step.specs.Equipment.{EquipmentView, begun_step, is_marked_out, needs_numbers, parts_done, reserving as opening, settled, settled_step}
+use Rattle.spool_works.specs.DiskCalls.{HasBegunWorks, HasCalled, HasFailedIn, HasMade, all_disk_calls, disk_calls}
+use Rattle.spool_works.specs.DiskCalls.{disk_in}
+use Rattle.tool_step.specs.Equipment.{EquipmentView, begun_step, is_marked_out, needs_numbers, parts_done}
+use Rattle.tool_step.specs.Equipment.{reserving as opening, settled, settled_step}
 use Rattle.tool_step.specs.Own.{OwnView, ToolPart}
 use Rattle.tool_step.specs.Step.{first_parts}
 use Rattle.equipment_node.specs.Stepping.{IsClear, IsTold}
 use Rattle.equipment_node.proofs.Standings.{changes-stand, opened-behind}
-use Rattle.spool_works.proofs.Called.{all-failed, all-made, failed-before, failed-behind, look-made, look-stops, made-same, made-then, mark-made, mark-stops}
+use Rattle.spool_works.proofs.Called.{all-failed, all-made, failed-before, failed-behind, look-made, look-stops}
+use Rattle.spool_works.proofs.Called.{made-same, made-then, mark-made, mark-stops}
 use Rattle.equipment_node.proofs.Opened.{mark-failed}
 use Rattle.equipment_node.proofs.OverDisk.{done-standing, takes-settled}
 
@@ -121,7 +126,7 @@ module _ {D : Type 0} (members : disk.Ghosts D) where
             subst
             (λ (works : List DiskWork).
             HasMade members g.spool.disk h.spool.disk (all_disk_calls (standing_in s) works))
-            (sym (mark-failed members s g needs clear done.0.0.left))
+            (sym (mark-failed members s g needs clear done.0.0.0))
             (mark-made members g.spool h.spool.disk (standing_in s) clear.stands told.0 told.1 done.0.0)
 
         pub reserve-stops :
@@ -131,8 +136,8 @@ module _ {D : Type 0} (members : disk.Ghosts D) where
             subst
             (λ (works : List DiskWork).
             HasFailedIn members g.spool.disk spent.disk (all_disk_calls (standing_in s) works))
-            (sym (mark-failed members s g needs clear done.0.left))
-            (mark-stops members g.spool spent.disk (standing_in s) clear.stands told.0 told.1 done.0)
+            (sym (mark-failed members s g needs clear done.0))
+            (mark-stops members g.spool spent.disk (standing_in s) clear.stands told.0 told.1 done)
 
         is-out : (h : GemSpool D) → ReservesFrom members g h None → is_marked_out s.file.mark.value ≡ true
         is-out h done = let none = done.1 in let mark = clear.stands.mark in grind (arith, nat_tests, none, mark)
@@ -196,116 +201,119 @@ module _ {D : Type 0} (members : disk.Ghosts D) where
     -- the disk failed at a work
     carry-stops :
         (g : GemSpool D) (works : List Work) (rest : List DiskWork) (st : Standing)
-        (out after : StepOut) (end : Ended D) → count_of g.spool ≡ count_in st
+        (out after : StepOut) (end : Ended D) → Stands members g.spool st → IsTold (members.told g.spool.disk)
         → Carries members g works out after (Err end)
         → HasCalled members disk_in g.spool.disk st (map Change works ++ rest) (Err end)
-    carry-stops g works rest st out after (ended.DiskFailed spent) count cut =
+    carry-stops g works rest st out after (ended.DiskFailed spent) stands told cut =
         called-wider g.spool.disk spent.disk st (map Change works) rest
-        (all-failed members g works cut.at cut.undone.failed cut.undone.before spent st count cut.undone.is
-        cut.undone.done cut.undone.fails)
-    carry-stops g works rest st out after (ended.NumbersSpent spent) count cut = absurd cut
-    carry-stops g works rest st out after (ended.NoMemory spent) count cut = absurd cut
+        (all-failed members g works cut.at cut.undone.failed cut.undone.before spent st stands told.0 told.1
+        cut.undone.is cut.undone.done cut.undone.fails)
+    carry-stops g works rest st out after (ended.NumbersSpent spent) stands told cut = absurd cut
+    carry-stops g works rest st out after (ended.NoMemory spent) stands told cut = absurd cut
 
-    module _ (g : GemSpool D) (clear : IsClear members g.spool (opened s)) where
-      abbrev stood : Standing
-      stood = standing_in (opened s)
+    module _ (g : GemSpool D) (clear : IsClear members g.spool (opened s)) (told : IsTold (members.told g.spool.disk))
+      where
+        abbrev stood : Standing
+        stood = standing_in (opened s)
 
-      -- the works, and what comes behind them
-      pub behind-called :
-          (went : opening s ≡ Goes (at_first (opened s))) (h : GemSpool D) (node : Node OwnView Kind) (out : StepOut)
-          (begun : IsBegun s input now node out) (result : Result (GemSpool D) (Ended D))
-          → count_of g.spool ≡ stood_count node.own.ledger
-          → counts_after (stood_count node.own.ledger) node.own.ledger.works ≡ stood_count (carried_out node.own.ledger)
-          → HasCarried members g node.own.ledger.works h
-          → HasCalled members disk_in h.spool.disk (standing_in (settled begun.step.next))
-          (read_works (Goes (settled_step begun.step))) result
-          → HasCalled members disk_in g.spool.disk stood (works_behind (begun_step s input now)) result
-      behind-called went h node out begun result count come carried last =
-          subst
-          (λ (w : Went EquipmentView Happening).
-          HasCalled members disk_in g.spool.disk stood (works_behind w) result) (sym begun.is)
-          (called-then g.spool.disk h.spool.disk stood (map Change works)
-          (all-made members g works h stood clear.stands.count carried-is.done) (read_works (Goes begun.step))
-          result
-          (subst
-          (λ (x : Standing).
-          HasCalled members disk_in h.spool.disk x (read_works (Goes begun.step)) result)
-          (sym (changes-stand stood works ∙ standing))
-          (subst
-          (λ (b : Bool).
-          HasCalled members disk_in h.spool.disk (standing_in (settled begun.step.next))
-          (if b then ReadOldest ∷ [] else []) result)
-          (takes-settled members s input now begun.step.next) last)))
-        where
-          ledger-is : node.own.ledger ≡ begun.step.next.node.own.ledger
-          ledger-is = ap (λ (n : Node OwnView Kind). n.own.ledger) (sym begun.node_is)
+        -- the works, and what comes behind them
+        pub behind-called :
+            (went : opening s ≡ Goes (at_first (opened s))) (h : GemSpool D) (node : Node OwnView Kind) (out : StepOut)
+            (begun : IsBegun s input now node out) (result : Result (GemSpool D) (Ended D))
+            → count_of g.spool ≡ stood_count node.own.ledger
+            → counts_after (stood_count node.own.ledger) node.own.ledger.works
+            ≡ stood_count (carried_out node.own.ledger)
+            → HasCarried members g node.own.ledger.works h
+            → HasCalled members disk_in h.spool.disk (standing_in (settled begun.step.next))
+            (read_works (Goes (settled_step begun.step))) result
+            → HasCalled members disk_in g.spool.disk stood (works_behind (begun_step s input now)) result
+        behind-called went h node out begun result count come carried last =
+            subst
+            (λ (w : Went EquipmentView Happening).
+            HasCalled members disk_in g.spool.disk stood (works_behind w) result) (sym begun.is)
+            (called-then g.spool.disk h.spool.disk stood (map Change works)
+            (all-made members g works h stood clear.stands told.0 told.1 carried-is.done) (read_works (Goes begun.step))
+            result
+            (subst
+            (λ (x : Standing).
+            HasCalled members disk_in h.spool.disk x (read_works (Goes begun.step)) result)
+            (sym (changes-stand stood works ∙ standing))
+            (subst
+            (λ (b : Bool).
+            HasCalled members disk_in h.spool.disk (standing_in (settled begun.step.next))
+            (if b then ReadOldest ∷ [] else []) result)
+            (takes-settled members s input now begun.step.next) last)))
+          where
+            ledger-is : node.own.ledger ≡ begun.step.next.node.own.ledger
+            ledger-is = ap (λ (n : Node OwnView Kind). n.own.ledger) (sym begun.node_is)
 
-          works : List Work
-          works = begun.step.next.node.own.ledger.works
+            works : List Work
+            works = begun.step.next.node.own.ledger.works
 
-          carried-is : HasCarried members g works h
-          carried-is = subst (λ (l : LedgerView). HasCarried members g l.works h) ledger-is carried
+            carried-is : HasCarried members g works h
+            carried-is = subst (λ (l : LedgerView). HasCarried members g l.works h) ledger-is carried
 
-          standing : standings_after stood works ≡ standing_in (settled begun.step.next)
-          standing =
-              done-standing members s input now went (Goes begun.step) begun.is g h clear
-              (count ∙ ap stood_count ledger-is)
-              (subst (λ (l : LedgerView). counts_after (stood_count l) l.works ≡ stood_count (carried_out l)) ledger-is
-              come)
-              begun.file
+            standing : standings_after stood works ≡ standing_in (settled begun.step.next)
+            standing =
+                done-standing members s input now went (Goes begun.step) begun.is g h clear
+                (count ∙ ap stood_count ledger-is)
+                (subst (λ (l : LedgerView). counts_after (stood_count l) l.works ≡ stood_count (carried_out l))
+                ledger-is
+                come)
+                begun.file
 
-      pub behind-stops :
-          (node : Node OwnView Kind) (out after : StepOut) (begun : IsBegun s input now node out) (end : Ended D)
-          → Carries members g node.own.ledger.works out after (Err end)
-          → HasCalled members disk_in g.spool.disk stood (works_behind (begun_step s input now)) (Err end)
-      behind-stops node out after begun end cut =
-          subst
-          (λ (w : Went EquipmentView Happening).
-          HasCalled members disk_in g.spool.disk stood (works_behind w) (Err end)) (sym begun.is)
-          (carry-stops g begun.step.next.node.own.ledger.works (read_works (Goes begun.step)) stood out after end
-          clear.stands.count
-          (subst (λ (n : Node OwnView Kind). Carries members g n.own.ledger.works out after (Err end))
-          (sym begun.node_is)
-          cut))
+        pub behind-stops :
+            (node : Node OwnView Kind) (out after : StepOut) (begun : IsBegun s input now node out) (end : Ended D)
+            → Carries members g node.own.ledger.works out after (Err end)
+            → HasCalled members disk_in g.spool.disk stood (works_behind (begun_step s input now)) (Err end)
+        behind-stops node out after begun end cut =
+            subst
+            (λ (w : Went EquipmentView Happening).
+            HasCalled members disk_in g.spool.disk stood (works_behind w) (Err end)) (sym begun.is)
+            (carry-stops g begun.step.next.node.own.ledger.works (read_works (Goes begun.step)) stood out after end
+            clear.stands told
+            (subst (λ (n : Node OwnView Kind). Carries members g n.own.ledger.works out after (Err end))
+            (sym begun.node_is)
+            cut))
 
-      -- a number was wanting
-      pub spent-stops :
-          (node : Node OwnView Kind) (out after : StepOut) (begun : IsBegunSpent s input now node out) (end : Ended D)
-          → Carries members g node.own.ledger.works out after (Err end)
-          → HasCalled members disk_in g.spool.disk stood (works_behind (begun_step s input now)) (Err end)
-      spent-stops node out after begun end cut =
-          subst
-          (λ (w : Went EquipmentView Happening).
-          HasCalled members disk_in g.spool.disk stood (works_behind w) (Err end)) (sym begun.is)
-          (carry-stops g begun.step.next.node.own.ledger.works [] stood out after end clear.stands.count
-          (subst (λ (l : LedgerView). Carries members g l.works out after (Err end)) (sym begun.ledger) cut))
+        -- a number was wanting
+        pub spent-stops :
+            (node : Node OwnView Kind) (out after : StepOut) (begun : IsBegunSpent s input now node out) (end : Ended D)
+            → Carries members g node.own.ledger.works out after (Err end)
+            → HasCalled members disk_in g.spool.disk stood (works_behind (begun_step s input now)) (Err end)
+        spent-stops node out after begun end cut =
+            subst
+            (λ (w : Went EquipmentView Happening).
+            HasCalled members disk_in g.spool.disk stood (works_behind w) (Err end)) (sym begun.is)
+            (carry-stops g begun.step.next.node.own.ledger.works [] stood out after end clear.stands told
+            (subst (λ (l : LedgerView). Carries members g l.works out after (Err end)) (sym begun.ledger) cut))
 
-      pub spent-called :
-          (h : GemSpool D) (node : Node OwnView Kind) (out : StepOut) (begun : IsBegunSpent s input now node out)
-          (spent : Device D) → HasCarried members g node.own.ledger.works h → spent.disk ≡ h.spool.disk
-          → HasCalled members disk_in g.spool.disk stood (works_behind (begun_step s input now))
-          (Err (ended.NumbersSpent spent))
-      spent-called h node out begun spent carried same =
-          subst
-          (λ (w : Went EquipmentView Happening).
-          HasMade members g.spool.disk spent.disk (all_disk_calls stood (works_behind w))) (sym begun.is)
-          (all-behind g.spool.disk h.spool.disk stood (map Change works)
-          (all-made members g works h stood clear.stands.count carried-is.done) spent.disk []
-          (made-same members h.spool.disk spent.disk same))
-        where
-          works : List Work
-          works = begun.step.next.node.own.ledger.works
+        pub spent-called :
+            (h : GemSpool D) (node : Node OwnView Kind) (out : StepOut) (begun : IsBegunSpent s input now node out)
+            (spent : Device D) → HasCarried members g node.own.ledger.works h → spent.disk ≡ h.spool.disk
+            → HasCalled members disk_in g.spool.disk stood (works_behind (begun_step s input now))
+            (Err (ended.NumbersSpent spent))
+        spent-called h node out begun spent carried same =
+            subst
+            (λ (w : Went EquipmentView Happening).
+            HasMade members g.spool.disk spent.disk (all_disk_calls stood (works_behind w))) (sym begun.is)
+            (all-behind g.spool.disk h.spool.disk stood (map Change works)
+            (all-made members g works h stood clear.stands told.0 told.1 carried-is.done) spent.disk []
+            (made-same members h.spool.disk spent.disk same))
+          where
+            works : List Work
+            works = begun.step.next.node.own.ledger.works
 
-          carried-is : HasCarried members g works h
-          carried-is = subst (λ (l : LedgerView). HasCarried members g l.works h) (sym begun.ledger) carried
+            carried-is : HasCarried members g works h
+            carried-is = subst (λ (l : LedgerView). HasCarried members g l.works h) (sym begun.ledger) carried
 
-      -- memory was wanting
-      pub none-called :
-          (spent : Device D) → spent.disk ≡ g.spool.disk
-          → HasCalled members disk_in g.spool.disk stood (works_behind (begun_step s input now))
-          (Err (ended.NoMemory spent))
-      none-called spent same =
-          none-begun g.spool.disk spent.disk stood (works_behind (begun_step s input now)) same
+        -- memory was wanting
+        pub none-called :
+            (spent : Device D) → spent.disk ≡ g.spool.disk
+            → HasCalled members disk_in g.spool.disk stood (works_behind (begun_step s input now))
+            (Err (ended.NoMemory spent))
+        none-called spent same =
+            none-begun g.spool.disk spent.disk stood (works_behind (begun_step s input now)) same
 
   -- ---- what comes behind the works
 

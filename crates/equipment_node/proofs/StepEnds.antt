@@ -1,5 +1,6 @@
 -- How a step over a disk in memory ends, and where a planned call has stopped the disk.
-use Rattle.std.proofs.Common.{◌≡◌, refl, sym, ap, subst, ◌∙◌, arith, zero, suc, ◌≤◌, ◌&&◌, nat_le, Bool, true, false, ℕ, List, [], ◌∷◌, length, Option, Some, None, is_some}
+use Rattle.std.proofs.Common.{◌≡◌, refl, sym, ap, subst, ◌∙◌, arith, zero, suc, ◌≤◌, ◌&&◌, nat_le, Bool, true, false, ℕ}
+use Rattle.std.proofs.Common.{List, [], ◌∷◌, length, Option, Some, None, is_some}
 use Rattle.std.proofs.lemmas.Bool.Decides.{nat_tests}
 use Rattle.std.specs.Prelude.{IfSome, slice_get, Err}
 use Rattle.disk_base.specs.Faults.{IsAmong}
@@ -26,7 +27,7 @@ use Rattle.tool_step.specs.End.{machine}
 use Rattle.tool_step.specs.Equipment.{EquipmentView, act, begun_step, restarts, starts}
 use Rattle.equipment_node.specs.Held.{HasMoved, Held, view_in}
 use Rattle.equipment_node.specs.InMemory.{HasPower, IsLost, IsWhole, anew_over, file_cut, lost_by, lost_if, stop_told}
-use Rattle.spool_works.specs.SpoolLosses.{Left}
+use Rattle.gem_spool.specs.Updates.{Left}
 use Rattle.tool_law.proofs.Lawful.{IsGoodView, act-good}
 use Rattle.tool_law.proofs.LawfulLosses.{LeavesWell, all-well}
 use Rattle.tool_step.proofs.LossCalls.{IsAtCall, at-call}
@@ -165,19 +166,19 @@ module _ (plan : EquipmentPlan) (h : Held DiskState) (power : HasPower ghosts pl
         abbrev is_stopped : Bool
         is_stopped =
             spent.disk.plan.stopped
-            && (nat_le 5 (disk_health spent.disk).calls && nat_le 4096 (disk_health spent.disk).room)
+            && (nat_le 7 (disk_health spent.disk).calls && nat_le 4097 (disk_health spent.disk).room)
 
         broken : is_stopped ≡ true → LeavesImages spent.disk.story
             → HasBrokenAt some call spent.disk.story out.notes
         broken so images =
             let is =
-            three spent.disk.plan.stopped (nat_le 5 (disk_health spent.disk).calls)
-            (nat_le 4096 (disk_health spent.disk).room) so in
+            three spent.disk.plan.stopped (nat_le 7 (disk_health spent.disk).calls)
+            (nat_le 4097 (disk_health spent.disk).room) so in
             breaks goes spent.disk.story refl images is.0
             (room-left is.1 is.2)
           where
             room-left :
-                nat_le 5 (disk_health spent.disk).calls ≡ true → nat_le 4096 (disk_health spent.disk).room ≡ true
+                nat_le 7 (disk_health spent.disk).calls ≡ true → nat_le 4097 (disk_health spent.disk).room ≡ true
                 → HasRoomLeft (disk_health spent.disk)
             room-left enough wide =
                 record { calls = grind (arith, nat_tests, enough); bytes = grind (arith, nat_tests, wide) }

@@ -1,5 +1,5 @@
 -- That a start from a device comes to the start from what the device tells.
-use Rattle.std.proofs.Common.{◌≡◌, refl, sym, ap, subst, ◌∙◌, inl, inr, true, List, [], ◌∷◌, Option, Some, None}
+use Rattle.std.proofs.Common.{◌≡◌, sym, ap, subst, ◌∙◌, inl, inr, true, Option, Some, None}
 use Rattle.std.specs.Option.{option_map}
 use Rattle.std.specs.Prelude.{IfOk, Result, Ok, Err}
 use Rattle.disk_base.specs.Story.{Story, with_sync}
@@ -8,10 +8,8 @@ use Rattle.disk_base.specs.declared.disk.Disk as disk
 use Rattle.gem_spool.specs.declared.spool.GemSpool.{GemSpool}
 use Rattle.gem_spool.specs.Standing.{file_told, standing_of}
 use Rattle.message_flow.specs.declared.step.StepOut.{StepOut}
-use Rattle.spool_slots.specs.Area.{first_of}
 use Rattle.spool_slots.specs.Changes.{Recovers}
 use Rattle.spool_slots.specs.File.{SpoolFile, StandsFor, file_in, spool_break}
-use Rattle.spool_slots.specs.Slot.{Message}
 use Rattle.spool_slots.specs.Spool.{Rests, SpoolView, known_of}
 use Rattle.spool_slots.specs.declared.reading.NotSpool.{NotSpool}
 use Rattle.spool_slots.specs.declared.states.Raw.{Raw}
@@ -34,10 +32,6 @@ use Rattle.equipment_node.proofs.Seated.{start-gone, start-in}
 
 same-story : (a b : Story) → Some a ≡ Some b → a ≡ b
 same-story a b same = cc
-
-first-same : (list : List Message) → first_of list ≡ first_in list
-first-same [] = refl
-first-same (message ∷ list) = refl
 
 -- a start that has found a spool file
 pub found : {D : Type 0} (s : Story) (result : Result (Held D) (Starting D)) → spool_break s.now.bytes ≡ None
@@ -85,11 +79,11 @@ module _ {D : Type 0} (members : disk.Ghosts D) (old : D) (s : Story) (told : me
       (plan : EquipmentPlan) (out : StepOut) (spent : Device D) → IsEmpty out
       → Recovers members old (Err (recovering.Failed spent))
       → Begins members plan s out (Err (starting.DiskFailed spent))
-  not-recovered plan out spent empty (inl is) = (
+  not-recovered plan out spent empty (inl is, by) = (
     empty,
     λ t now. inl (inl (same-story t s (sym now ∙ is.told ∙ told))),
   )
-  not-recovered plan out spent empty (inr is) = (
+  not-recovered plan out spent empty (inr is, by) = (
     empty,
     λ t now. inl (inr (same-story t (with_sync s) (sym now ∙ is.told ∙ ap (option_map with_sync) told))),
   )
@@ -118,8 +112,7 @@ module _ {D : Type 0} (members : disk.Ghosts D) (old : D) (s : Story) (told : me
     is-fresh = record {
       told = (with_sync s, now-told);
       first =
-          ap (λ (x : SpoolView D). x.first) same ∙ (is.1 s told).1 ∙ first-same file.list
-          ∙ ap (λ (f : SpoolFile). first_in f.list) (sym file-is);
+          ap (λ (x : SpoolView D). x.first) same ∙ (is.1 s told).1 ∙ ap (λ (f : SpoolFile). first_in f) (sym file-is);
     }
 
     marked-is : (t : Story) → EachImage (HasMark (standing_of members g.spool).file) t.now

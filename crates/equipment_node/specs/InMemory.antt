@@ -1,5 +1,6 @@
 -- The equipment in a world, with its spool on a disk in memory.
-use Rattle.std.specs.Prelude.{◌≡◌, ◌&&◌, ◌+◌, ◌-◌, nat_le, ℕ, Bool, true, false, [], ◌∷◌, Option, Some, None, OnOk, Result}
+use Rattle.std.specs.Prelude.{◌≡◌, ◌&&◌, ◌+◌, ◌-◌, nat_le, ℕ, Bool, true, false, [], ◌∷◌, length, Option, Some, None}
+use Rattle.std.specs.Prelude.{OnOk, Result}
 use Rattle.disk_base.specs.Cut.{image_of}
 use Rattle.disk_base.specs.MemDisk.{DiskState, disk_health}
 use Rattle.disk_base.specs.declared.cut.CutChoice.{CutChoice}
@@ -33,7 +34,7 @@ IsSure spool = IsSureDisk (disk_health spool.spool.disk)
 -- an equipment starts over messages that can be sent, by a spool that was just taken up
 pub record Holds (spool : GemSpool DiskState) : Type 0 where
   pub can : AllCanBeSent (file_in spool.spool.disk.story.now.bytes).list
-  pub first : spool.spool.first ≡ first_in (file_in spool.spool.disk.story.now.bytes).list
+  pub first : spool.spool.first ≡ first_in (file_in spool.spool.disk.story.now.bytes)
   pub sure : IsSure spool
 
 -- its state; without power, that of a start by its plan
@@ -57,6 +58,11 @@ with_stop call h = record h {
     };
   };
 }
+
+-- how many calls its disk has made since the file was made, or power was lost; one without power makes none
+abbrev pub made_in : Option (Held DiskState) → ℕ
+made_in None = 0
+made_in (Some h) = length h.spool.spool.disk.calls
 
 -- a start with so many slots plans that its disk stops at the first call too many: a call of each slot and two have
 -- made or taken up the file, and five have reserved system bytes
@@ -102,7 +108,7 @@ abbrev pub lost_by : Ended DiskState → Option DiskState
 lost_by (ended.DiskFailed spent) =
     lost_if
     (spent.disk.plan.stopped
-    && (nat_le 5 (disk_health spent.disk).calls && nat_le 4096 (disk_health spent.disk).room)) spent.disk
+    && (nat_le 7 (disk_health spent.disk).calls && nat_le 4097 (disk_health spent.disk).room)) spent.disk
 lost_by (ended.NoMemory spent) = None
 lost_by (ended.NumbersSpent spent) = None
 
@@ -123,6 +129,7 @@ disk_of None None = None
 
 -- a disk that was left so, and that nothing was asked of since
 pub record IsStartable (disk : DiskState) : Type 0 where
+  pub unasked : disk.calls ≡ []
   pub can : AllCanBeSent (file_in disk.story.now.bytes).list
   pub sure : IsSureDisk (disk_health disk)
 
@@ -136,12 +143,14 @@ stop_at_start (starting.NotSpool raw break) = stop.NoMemory
 stop_at_start (starting.DiskFailed spent) = stop.NoMemory
 stop_at_start (starting.NumbersSpent spent) = stop.NumbersSpent
 
--- it comes to this, and goes on with a disk that stops at the first call too many, or has stopped
+-- it comes to this, and goes on with a disk that has made as many calls as are counted for a start, and stops at the
+-- first call too many; or it has stopped
 pub record StartsAnew
     (members : disk.Ghosts DiskState) (plan : EquipmentPlan) (went : Went EquipmentView Happening)
     (going : Option (Held DiskState)) (out : StepOut) (result : Result (Unit {0}) Stop)
     : Type 0 where
   pub start : Leaves ([] ∷ []) went (state_in members plan going) out result
   pub whole : IsNotStopped result
+  pub made : OnOk result (made_in going ≡ machine.start_calls (state_in members plan going))
   pub planned : OnOk result (planned_in going ≡ calls_left machine (state_in members plan going))
   pub sound : IsWhole members plan going None

@@ -27,7 +27,7 @@ use Rattle.tool_core.specs.Starting.{new_node, IsStartNoted}
 -- it was taken up from its device, and nothing was done with it since: an empty one begins with number 0
 pub record IsFresh {D : Type 0} (members : disk.Ghosts D) (g : GemSpool D) : Type 0 where
   pub told : IsTold (members.told g.spool.disk)
-  pub first : g.spool.first ≡ first_in (standing_of members g.spool).file.list
+  pub first : g.spool.first ≡ first_in (standing_of members g.spool).file
 
 abbrev pub started_over : {D : Type 0} → disk.Ghosts D → EquipmentPlan → GemSpool D → Step EquipmentView Happening
 started_over members plan g = started_on plan (standing_of members g.spool).file

@@ -1,7 +1,8 @@
 //! A step over the spool's disk. It is asked at three places alone: for more system bytes before all else, for the
 //! works that are owed behind what the step is given, and for the oldest message before an unload goes on.
 
-ghost use Rattle.std.specs.Prelude.{All, ◌≡◌, ◌≢◌, ◌∷◌, [], ◌<◌, ◌≤◌, ◌%◌, ◌^◌, ◌-◌, nat_le, length, List, ℕ, true, Err, IfOk, Some};
+ghost use Rattle.std.specs.Prelude.{All, ◌≡◌, ◌≢◌, ◌∷◌, [], ◌<◌, ◌≤◌, ◌%◌, ◌^◌, ◌-◌, nat_le, length, List, ℕ, true};
+ghost use Rattle.std.specs.Prelude.{Err, IfOk, Some};
 ghost use Rattle.arrayvec.specs.ArrayVec.{array_vec_len};
 ghost use Rattle.gem_spool.specs.Standing.{Standing, Stands, count_in, count_of};
 ghost use Rattle.gem_spool.specs.Works.{AreDue, counts_after};
@@ -16,7 +17,8 @@ ghost use Rattle.message_end.specs.Parts.{closes};
 ghost use Rattle.spool_ledger.specs.Ledger.{carried_out, stood_count};
 ghost use Rattle.spool_ledger.specs.Unloading.{next_number as unload_number};
 ghost use Rattle.equipment_tables.specs.Tables.{most_transmitted};
-ghost use Rattle.equipment_node.specs.Amid.{Acts, Carries, DoesLast, EndsSo, HasOpened, IsAt, IsBegun, IsReady, IsSendable, Opens, StopsAt, asked_node, opened, settled_node};
+ghost use Rattle.equipment_node.specs.Amid.{Acts, Carries, DoesLast, EndsSo, HasOpened, IsAt, IsBegun, IsReady};
+ghost use Rattle.equipment_node.specs.Amid.{IsSendable, Opens, StopsAt, asked_node, opened, settled_node};
 ghost use Rattle.equipment_node.specs.Breaking.{BreaksBy};
 ghost use Rattle.tool_step.specs.Disk.{read_works, reserve_works, standing_in, works_behind};
 ghost use Rattle.spool_works.specs.DiskWorks.DiskWork.{ReadOldest};

@@ -71,10 +71,11 @@ pub enum Starting<D> {
 
 impl<D: Disk> Equipment<D> {
     /// A start: the spool is taken up from its device, and system bytes are reserved there. The plan is copied where it
-    /// is kept, and must fit. The disk's calls are a sync, reads, and those that move the mark. `NumbersSpent` comes
-    /// where the mark of the file can't move on, and nowhere else, and no start goes on there. Whether the disk tells
-    /// its bytes or not, it is handed back with its file, and counts a fault where the answer is `DiskFailed` and
-    /// nowhere else. A disk of which no call is to fail stays such.
+    /// is kept, and must fit. The disk's calls are a sync, a read of what is in front of the slots, one of each slot,
+    /// and those five that move the mark, up to the first that fails. `NumbersSpent` comes where the mark of the file
+    /// can't move on, and nowhere else, and no start goes on there. Whether the disk tells its bytes or not, it is
+    /// handed back with its file, and counts a fault where the answer is `DiskFailed` and nowhere else. A disk of which
+    /// no call is to fail stays such.
     pub fn start(
         alloc: Global,
         plan: &EquipmentPlan,
@@ -87,7 +88,7 @@ impl<D: Disk> Equipment<D> {
         ensures begins { (s : Story) → D.told raw.disk ≡ Some s → Begins D.Disk plan.now s out.new result }
         ensures spent { (s : Story) → D.told raw.disk ≡ Some s → IsStartSpentByCause (file_in s.now.bytes) result }
         ensures calls { (s : Story) → D.told raw.disk ≡ Some s
-            → CallsInStart D.Disk raw.disk (file_in s.now.bytes) result }
+            → CallsInStart D.Disk raw.disk s.now.bytes result }
         ensures finds { (s : Story) → D.told raw.disk ≡ Some s → FindsFile s result }
         ensures disk { StartHandsBack D.Disk raw.disk result }
         ensures keeps { IfOk result (λ h. KeepsSure D.Disk raw.disk h.spool.spool.disk) }

@@ -40,9 +40,9 @@ pub const LISTED_BYTES: u64 = (64 << 20) + (16 << 10);
 
 // The most that a work of a step asks of the disk. Where as much room is left behind a stop, the call was made at which
 // it stopped.
-const WORK_CALLS: u32 = 5;
+const WORK_CALLS: u32 = 7;
 
-const WORK_BYTES: u64 = 4_096;
+const WORK_BYTES: u64 = 4_097;
 
 /// The equipment over a disk in memory, as long as it has power, and what a start anew begins with. One that has
 /// stopped makes no step any more; where a planned call has stopped its disk it may start anew.

@@ -47,18 +47,29 @@ fn number_of(copy: &[u8]) -> u64
 
 // The number in a copy of a cell.
 #[tactic(auto, unfolding(crate::specs::Cell::copy_of))]
-fn copy_of(cell: &[u8; 17], second: bool) -> u64
+fn copy_of(cell: &[u8], second: bool) -> u64
+    requires { length cell.now ≡ 17 }
     ensures { result ≡ number_in cell.now second }
 {
     let start = copy_place(second) as usize;
     number_of(&cell[start..start + 8])
 }
 
-// The number in the copy that the gate names.
-fn value_of(cell: &[u8; 17]) -> u64
+/// The number in the copy of a cell that its gate names.
+pub fn value_of(cell: &[u8]) -> u64
+    requires { length cell.now ≡ 17 }
     ensures { result ≡ (cell_of cell.now).value }
 {
     copy_of(cell, names_second(cell[16]))
+}
+
+/// Where this copy stands in the cell.
+pub fn counting_place(cell: &[u8]) -> u64
+    requires { length cell.now ≡ 17 }
+    ensures place { result ≡ place_of (cell_of cell.now).second }
+    ensures bound { result ≤ 8 }
+{
+    copy_place(names_second(cell[16]))
 }
 
 /// The bytes of a copy of a number.

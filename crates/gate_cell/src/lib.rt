@@ -6,7 +6,7 @@ mod places;
 mod prepared;
 mod preparing;
 
-pub use cell::{CellAnswer, read_cell};
+pub use cell::{CellAnswer, counting_place, read_cell, value_of};
 pub use prepared::Prepared;
 pub use preparing::prepare;
 

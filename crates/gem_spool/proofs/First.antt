@@ -1,5 +1,6 @@
 -- That what is read of the oldest message is the first of the list.
-use Rattle.std.proofs.Common.{◌≡◌, ℕ, ◌+◌, ◌-◌, ◌%◌, ◌<◌, List, [], ◌∷◌, drop, take, Some, Ok, Err, Result, IfOk, sym, ap, subst, ◌∙◌, arith}
+use Rattle.std.proofs.Common.{◌≡◌, ℕ, ◌+◌, ◌-◌, ◌%◌, ◌<◌, List, [], ◌∷◌, drop, take, Some, Ok, Err, Result, IfOk, sym}
+use Rattle.std.proofs.Common.{ap, subst, ◌∙◌, arith}
 use Rattle.std.proofs.lemmas.List.{drop-drop, drop-take}
 use Rattle.std.specs.List.{slice_get}
 use Rattle.disk_base.specs.Story.{Story, bytes_at}

@@ -1,37 +1,25 @@
 -- That each call makes of the list what it says.
-use Rattle.std.proofs.Common.{◌≡◌, ℕ, zero, suc, ◌+◌, ◌++◌, ◌∷◌, [], List, length, drop, Option, Some, None, Ok, refl, sym, ap, ◌∙◌, arith}
-use Rattle.std.specs.Option.{option_map}
-use Rattle.disk_base.specs.Settle.{Settles}
-use Rattle.disk_base.specs.Story.{Story, with_sync, with_write}
+use Rattle.std.proofs.Common.{◌≡◌, inl, inr, ℕ, ◌++◌, ◌∷◌, [], List, length, drop, Some, Ok, sym, ap, ◌∙◌}
+use Rattle.disk_base.specs.Story.{Story}
 use Rattle.disk_base.specs.declared.disk.Disk as disk
 use Rattle.disk_base.specs.declared.disk.DiskAnswer.TheVariants.{Done}
 use Rattle.disk_base.proofs.Told.{told_already}
-use Rattle.gem_spool.specs.Spool.{DropsSome, HasList, Purges, numbered, room_for}
+use Rattle.gem_spool.specs.Spool.{HasList, numbered, room_for}
 use Rattle.gem_spool.specs.declared.spool.Room.TheVariants.{Fits}
 use Rattle.gem_spool.proofs.Putting.{put_ends}
-use Rattle.spool_slots.specs.Changes.{Drops, HasReserved, Looks, Reserves, Seals, Stages, parts_of}
-use Rattle.spool_slots.specs.File.{SpoolFile}
-use Rattle.spool_slots.specs.Slot.{Message, slot_place}
-use Rattle.spool_slots.specs.Spool.{SpoolView, first_slot, next_slot}
+use Rattle.spool_slots.specs.Changes.{Clears, Drops, Looks, MovesMark, Reserves, Seals, Stages}
+use Rattle.spool_slots.specs.File.{SpoolFile, file_in}
+use Rattle.spool_slots.specs.Slot.{Message}
+use Rattle.spool_slots.specs.Spool.{SpoolView}
 use Rattle.spool_slots.specs.declared.states.OldestAnswer.{OldestAnswer}
 use Rattle.spool_slots.specs.declared.states.OldestAnswer.TheVariants as oldest
 
--- a disk that tells its bytes told them before
-told_before : (before : Option Story) (f : Story → Story) (after : Option Story) (t : Story) →
-    after ≡ option_map f before → after ≡ Some t → (s : Story) × (before ≡ Some s)
-told_before None f after t is told = absurd (grind (arith, is, told))
-told_before (Some s) f after t is told = (s, refl)
-
 module _ {D : Type 0} (members : disk.Ghosts D) (v : SpoolView D) where
-  settled_before : (w : SpoolView D) (at : ℕ) (bytes : List ℕ) →
-      Settles (members.told v.disk) at bytes (members.told w.disk) Done → (t : Story) → members.told w.disk ≡ Some t →
-      (s : Story) × (members.told v.disk ≡ Some s)
-  settled_before w at bytes settles t told =
-      told_before (members.told v.disk) (λ s. with_sync (with_write at bytes s)) (members.told w.disk) t settles told
-
+  -- a disk that tells its bytes told them before
   pub drop_told : (w : SpoolView D) → Drops members v (Ok w) → (t : Story) → members.told w.disk ≡ Some t →
       (s : Story) × (members.told v.disk ≡ Some s)
-  drop_told w drops t told = settled_before w (slot_place (first_slot v)) (0 ∷ []) drops.0.disk.told t told
+  drop_told w drops t told =
+      told_already (members.told v.disk) (members.told w.disk) t drops.0.disk.same_disk.2 told
 
   pub drop_list : (w : SpoolView D) → Drops members v (Ok w) → (list : List Message) → HasList members v list →
       HasList members w (drop 1 list)
@@ -41,16 +29,16 @@ module _ {D : Type 0} (members : disk.Ghosts D) (v : SpoolView D) where
         ∙ ap (λ (l : List Message). drop 1 l) (has.is old.0 old.1);
   }
 
-  pub reserve_told : (after : D) → HasReserved members v after Done → (t : Story) → members.told after ≡ Some t →
+  pub reserve_told : (after : D) → MovesMark members v after Done → (t : Story) → members.told after ≡ Some t →
       (s : Story) × (members.told v.disk ≡ Some s)
   reserve_told after done t told =
-      told_already (members.told v.disk) (members.told after) t done.same_disk.2 told
+      told_already (members.told v.disk) (members.told after) t done.1.0.same_disk.2 told
 
   pub reserve_list : (w : SpoolView D) (base : ℕ) → Reserves members v (Ok (w, base)) → (list : List Message) →
       HasList members v list → HasList members w list
   reserve_list w base done list has = record {
     is = λ t told. let old = reserve_told w.disk done.0 t told in
-        sym (ap (λ (f : SpoolFile). f.list) (done.3 old.0 t old.1 told).stands.is) ∙ has.is old.0 old.1;
+        sym (ap (λ (f : SpoolFile). f.list) (done.0.1.1 old.0 t old.1 told).stands.is) ∙ has.is old.0 old.1;
   }
 
   pub look_list : (w : SpoolView D) (number : ℕ) (before into : List ℕ) (answer : OldestAnswer) →
@@ -68,9 +56,8 @@ module _ {D : Type 0} (members : disk.Ghosts D) where
       Stages members v stream function body (Ok u) → Seals members u (Ok w) → (t : Story) →
       members.told w.disk ≡ Some t → (s : Story) × (members.told v.disk ≡ Some s)
   put_told v stream function body u w staged sealed t told =
-      let mid = settled_before members u w (slot_place (next_slot u)) (90 ∷ []) sealed.0.disk.told t told in
-      settled_before members v u (slot_place (next_slot v) + 1) (parts_of v.next stream function body)
-      staged.0.disk.told mid.0 mid.1
+      let mid = told_already (members.told u.disk) (members.told w.disk) t sealed.0.disk.same_disk.2 told in
+      told_already (members.told v.disk) (members.told u.disk) mid.0 staged.0.same_disk.2 mid.1
 
   pub put_list : (v : SpoolView D) (stream function : ℕ) (body : List ℕ) → room_for v (length body) ≡ Fits →
       (u w : SpoolView D) → Stages members v stream function body (Ok u) → Seals members u (Ok w) →
@@ -84,15 +71,17 @@ module _ {D : Type 0} (members : disk.Ghosts D) where
         ∙ ap (λ (l : List Message). l ++ numbered v stream function body ∷ []) (has.is old.0 old.1);
   }
 
-  pub some_told : (n : ℕ) (v w : SpoolView D) → DropsSome members n v w → (t : Story) → members.told w.disk ≡ Some t →
+  pub clear_told : (v w : SpoolView D) → Clears members v (Ok w) → (t : Story) → members.told w.disk ≡ Some t →
       (s : Story) × (members.told v.disk ≡ Some s)
-  some_told zero v w is t told = (t, sym (ap (λ (x : SpoolView D). members.told x.disk) is) ∙ told)
-  some_told (suc n) v w (u, some, drops) t told =
-      let mid = drop_told members u w drops t told in
-      some_told n v u some mid.0 mid.1
+  clear_told v w (inl none) t told = (t, sym (ap (λ (x : SpoolView D). members.told x.disk) none.1) ∙ told)
+  clear_told v w (inr moved) t told =
+      told_already (members.told v.disk) (members.told w.disk) t moved.0.1.0.same_disk.2 told
 
-  pub purge_list : (v w : SpoolView D) → Purges members v (Ok w) → HasList members w []
-  purge_list v w done = record {
-    is = λ t told. let old = some_told v.len v w done.1 t told in
-        sym (ap (λ (f : SpoolFile). f.list) (done.3 old.0 t old.1 told).stands.is);
-  }
+  pub clear_list : (v w : SpoolView D) → Clears members v (Ok w) → HasList members w []
+  clear_list v w done = record { is = go done }
+    where
+      go : Clears members v (Ok w) → (t : Story) → members.told w.disk ≡ Some t → (file_in t.now.bytes).list ≡ []
+      go (inl none) t told = none.2 t (sym (ap (λ (x : SpoolView D). members.told x.disk) none.1) ∙ told)
+      go (inr moved) t told =
+          let old = clear_told v w (inr moved) t told in
+          sym (ap (λ (f : SpoolFile). f.list) (moved.0.1.1 old.0 t old.1 told).stands.is)

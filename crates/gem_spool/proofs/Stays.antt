@@ -1,15 +1,17 @@
 -- That each call leaves a spool that stands as it says.
-use Rattle.std.proofs.Common.{◌≡◌, ⊎_elim, inl, inr, ℕ, zero, suc, ◌+◌, List, length, Option, Some, None, Ok, Err, refl, sym, ap, subst, ◌∙◌, arith}
+use Rattle.std.proofs.Common.{◌≡◌, ⊎_elim, inl, inr, ℕ, zero, suc, ◌+◌, List, length, Option, Some, None, Ok, Err, refl}
+use Rattle.std.proofs.Common.{sym, ap, subst, ◌∙◌, arith}
 use Rattle.disk_base.specs.Story.{Story}
 use Rattle.disk_base.specs.Through.{GoesThrough}
 use Rattle.disk_base.specs.declared.disk.Disk as disk
 use Rattle.disk_base.specs.declared.disk.DiskAnswer.{DiskAnswer}
-use Rattle.disk_base.specs.declared.disk.DiskAnswer.TheVariants.{Failed}
+use Rattle.disk_base.specs.declared.disk.DiskAnswer.TheVariants.{Done, Failed}
 use Rattle.disk_base.proofs.Moments.{only_now, starts, through_more}
 use Rattle.gem_spool.specs.Standing.{Standing, Stands, blanks, count_of, file_told, standing_of}
 use Rattle.gem_spool.specs.Works.{IsMarked, reserved}
 use Rattle.gem_spool.proofs.Lists.{reserve_told}
-use Rattle.spool_slots.specs.Changes.{Ends, HasReserved, IsSameOr, Reserves, reserved_in, with_mark_moved}
+use Rattle.spool_slots.specs.Changes.{Ends, HasMoved, IsSameOr, Moves, MovesMark, Reserves, reserved_in}
+use Rattle.spool_slots.specs.Changes.{with_mark_moved}
 use Rattle.spool_slots.specs.File.{SpoolFile, StandsFor, file_in}
 use Rattle.spool_slots.specs.Run.{IsChainFrom, slots_for}
 use Rattle.spool_slots.specs.Spool.{Rests, SpoolView, in_hand, known_of}
@@ -60,6 +62,13 @@ told_file (Some r) k s is rests =
     subst (λ (q : Story). Ends s (file_in q.now.bytes)) (sym same)
     (record { settled = rests.settled; stands = record { sound = rests.sound; is = refl } })
 
+module _ {D : Type 0} (members : disk.Ghosts D) where
+  -- as far as a value was written in a cell
+  pub moved_is : (old new : D) (at value : ℕ) (moved : List ℕ → SpoolFile) (said : DiskAnswer) →
+      Moves members old new at value moved said → HasMoved members old new at value moved said
+  moved_is old new at value moved Done is = is.0
+  moved_is old new at value moved Failed is = is.0
+
 module _ {D : Type 0} (members : disk.Ghosts D) (v : SpoolView D) where
   pub stands_so : v.next ≡ v.first + v.len → ((s : Story) → members.told v.disk ≡ Some s → Rests s (known_of v)) →
       Stands members v (standing_of members v)
@@ -99,7 +108,7 @@ module _ {D : Type 0} (members : disk.Ghosts D) (v : SpoolView D) where
         even = same_even w (v.mark + 4096) view st stands;
         file = λ t told. let old = reserve_told members v w.disk done.0 t told in
             subst (λ (f : SpoolFile). Ends t (with_mark_moved f)) (sym (stands.file old.0 old.1).stands.is)
-            (done.3 old.0 t old.1 told);
+            (done.0.1.1 old.0 t old.1 told);
       }
 
   -- at every moment the list stands, with the one mark or the other
@@ -113,11 +122,11 @@ module _ {D : Type 0} (members : disk.Ghosts D) (v : SpoolView D) where
             (sym (only_now s.now image file.settled left)) file.stands)),
       )
 
-  pub reserve_way : (after : D) (said : DiskAnswer) → HasReserved members v after said → (st : Standing) →
+  pub reserve_way : (after : D) (said : DiskAnswer) → MovesMark members v after said → (st : Standing) →
       Stands members v st → (s : Story) → members.told v.disk ≡ Some s →
       GoesThrough s (members.told after) (IsMarked st)
   reserve_way after said done st stands s told =
-      let one = done.images s told in
+      let one = (moved_is members v.disk after _ _ _ said done.1).images s told in
       let same : st.file ≡ file_in s.now.bytes = (stands.file s told).stands.is in (
         one.0,
         one.1,
@@ -131,4 +140,4 @@ module _ {D : Type 0} (members : disk.Ghosts D) (v : SpoolView D) where
   pub reserve_failed : (spent : Spent D) → Reserves members v (Err (reserving.Failed spent)) → (st : Standing) →
       Stands members v st → (s : Story) → members.told v.disk ≡ Some s →
       GoesThrough s (members.told spent.disk) (IsMarked st)
-  reserve_failed spent failed = reserve_way spent.disk Failed failed.0
+  reserve_failed spent failed = reserve_way spent.disk Failed failed

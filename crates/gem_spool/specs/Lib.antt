@@ -3,5 +3,6 @@ pub mod Reply
 pub mod Rule
 pub mod Spool
 pub mod Standing
+pub mod Updates
 pub mod Works
 pub mod Oldest

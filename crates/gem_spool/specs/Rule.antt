@@ -1,5 +1,6 @@
 -- Which primaries are spooled, and what an S2F43 is answered and leaves.
-use Rattle.std.specs.Prelude.{ℕ, ◌%◌, ◌==◌, ◌||◌, ◌&&◌, not, nat_eq, Bool, List, [], ◌∷◌, length, filter, Option, Some, None, if◌then◌else◌}
+use Rattle.std.specs.Prelude.{ℕ, ◌%◌, ◌==◌, ◌||◌, ◌&&◌, not, nat_eq, Bool, List, [], ◌∷◌, length, filter, Option, Some}
+use Rattle.std.specs.Prelude.{None, if◌then◌else◌}
 use Rattle.std.specs.List.{filter_map, list_any}
 use Rattle.gem_shapes.specs.declared.entries.RuleEntry.{RuleEntry}
 use Rattle.gem_spool.specs.declared.rule.RuleAnswer.{RuleAnswer}

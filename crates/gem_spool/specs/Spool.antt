@@ -1,10 +1,8 @@
 -- What each call does to the spool of the equipment (this profile).
-use Rattle.std.specs.Prelude.{◌≡◌, ◌⊎◌, ◌==◌, Bool, true, false, nat_le, nat_lt, not, if◌then◌else◌, ℕ, zero, suc, ◌+◌, ◌*◌, ◌^◌, ◌<◌, ◌≤◌}
+use Rattle.std.specs.Prelude.{◌≡◌, ◌⊎◌, ◌==◌, Bool, true, false, nat_le, nat_lt, if◌then◌else◌, ℕ, ◌+◌, ◌^◌, ◌<◌}
 use Rattle.std.specs.Prelude.{List, [], ◌∷◌, ◌++◌, drop, length, Option, Some, None, Result, Ok, Err}
-use Rattle.disk_base.specs.Cut.{image_of}
-use Rattle.disk_base.specs.Faults.{HasCause, IsPlanned}
+use Rattle.disk_base.specs.Calls.{DiskCall, sync_call, write_call}
 use Rattle.disk_base.specs.Story.{Story}
-use Rattle.disk_base.specs.declared.cut.CutChoice.{CutChoice}
 use Rattle.disk_base.specs.declared.disk.Disk as disk
 use Rattle.disk_base.specs.declared.disk.DiskAnswer.{DiskAnswer}
 use Rattle.disk_base.specs.declared.disk.DiskAnswer.TheVariants.{Done, Failed}
@@ -15,11 +13,12 @@ use Rattle.gem_spool.specs.declared.spool.PutAnswer.{PutAnswer}
 use Rattle.gem_spool.specs.declared.spool.PutAnswer.TheVariants as answer
 use Rattle.gem_spool.specs.declared.spool.Room.{Room}
 use Rattle.gem_spool.specs.declared.spool.Room.TheVariants as room
-use Rattle.spool_slots.specs.Changes.{Drops, Ends, HoldsThrough, IsSame, IsSameOr, Reserves, Seals, Stages, shut_for, with_message, without_some}
-use Rattle.spool_slots.specs.File.{SpoolFile, StandsFor, file_in}
-use Rattle.spool_slots.specs.Losses.{IsSure, LeavesByGate, file_left, gate_counts}
-use Rattle.spool_slots.specs.Slot.{Message}
-use Rattle.spool_slots.specs.Spool.{SpoolView, in_hand, known_of}
+use Rattle.spool_slots.specs.Changes.{Clears, Drops, Ends, HoldsThrough, IsSameOr, Reserves, Seals, Stages, parts_of}
+use Rattle.spool_slots.specs.Changes.{shut_in, stage_calls, with_message}
+use Rattle.spool_slots.specs.File.{SpoolFile, StandsFor, file_in, is_open_at}
+use Rattle.spool_slots.specs.Logs.{MakesAll}
+use Rattle.spool_slots.specs.Slot.{Message, slot_place}
+use Rattle.spool_slots.specs.Spool.{SpoolView, in_hand, known_of, next_slot}
 use Rattle.spool_slots.specs.declared.states.Dropping.TheVariants as dropping
 use Rattle.spool_slots.specs.declared.states.Reserving.TheVariants as reserving
 use Rattle.spool_slots.specs.declared.states.Spent.{Spent}
@@ -51,6 +50,15 @@ numbered v stream function body =
 abbrev pub put_in : Message → List ℕ → SpoolFile
 put_in message bytes = with_message message (file_in bytes)
 
+-- bytes stand for the list as it was, where the gate of the slot may be closed by now, or with the message at its end
+abbrev pub IsPutting : Message → List ℕ → List ℕ → Type 0
+IsPutting message bytes image =
+    IsSameOr (shut_in message.number) bytes image ⊎ StandsFor image (put_in message bytes)
+
+-- the calls of a put into the slot at a place, the gate of which may be stale
+abbrev pub put_calls : Bool → ℕ → List ℕ → List DiskCall
+put_calls stale at parts = stage_calls stale at parts ++ write_call at (90 ∷ []) Done ∷ sync_call Done ∷ []
+
 -- a message was staged, and its gate opened, as far as that went
 abbrev pub StagesAndSeals : {D : Type 0} → disk.Ghosts D → SpoolView D → ℕ → ℕ → List ℕ →
     Result (SpoolView D) (Spent D) → Type 0
@@ -60,22 +68,17 @@ StagesAndSeals {D} members v stream function body (Err spent) =
     Stages members v stream function body (Err (staging.Failed spent))
     ⊎ ((u : SpoolView D) × Stages members v stream function body (Ok u) × Seals members u (Err spent))
 
--- a crash leaves the list as it was, or with the message at its end; four calls were made, if none failed
+-- a crash leaves the list as it was, or with the message at its end; these calls were made, or up to one that failed
 pub record HasPut {D : Type 0} (members : disk.Ghosts D) (v : SpoolView D) (stream function : ℕ) (body : List ℕ)
     (after : D) (answer : DiskAnswer) : Type 0 where
   pub fits : room_for v (length body) ≡ room.Fits
   pub images : HoldsThrough (members.told v.disk) (members.told after)
-      (IsSameOr (put_in (numbered v stream function body)))
-  pub cause : HasCause (members.health v.disk) (members.health after) 4 (length body + 15)
-      ((members.health v.disk).room < length body + 15) answer
-
--- where one of the two calls that write the message was to fail, a crash leaves the list as it was; elsewhere the gate
--- decides
-pub record HasLostPut {D : Type 0} (members : disk.Ghosts D) (v : SpoolView D) (stream function : ℕ) (body : List ℕ)
-    (after : D) : Type 0 where
-  pub early : IsPlanned (members.health v.disk) 2 → HoldsThrough (members.told v.disk) (members.told after) IsSame
-  pub late : (IsPlanned (members.health v.disk) 2 → ⊥) → LeavesByGate (members.told v.disk) (members.told after)
-      (λ gate. gate == 90) (put_in (numbered v stream function body))
+      (IsPutting (numbered v stream function body))
+  -- whether the next slot's gate was stale, also where the disk tells nothing
+  pub stale : Bool
+  pub stale_is : (s : Story) → members.told v.disk ≡ Some s → stale ≡ is_open_at v.next (file_in s.now.bytes)
+  pub makes : MakesAll (members.health v.disk) (members.health after) (members.calls v.disk) (members.calls after)
+      (put_calls stale (slot_place (next_slot v)) (parts_of v.next stream function body)) answer
 
 -- the message stands at the end of the list; or nothing was done, since there is no room
 abbrev pub PutsInto : {D : Type 0} → disk.Ghosts D → GemSpool D → ℕ → ℕ → List ℕ → GemSpool D → PutAnswer → Type 0
@@ -102,15 +105,13 @@ list_after_put answer.Full message list = list
 list_after_put answer.TooLong message list = list
 list_after_put answer.NumbersSpent message list = list
 
--- where the disk failed, how far it went, and which call it was
+-- where the disk failed, how far it went, and what a loss leaves of the call that it was
 abbrev pub Puts : {D : Type 0} → disk.Ghosts D → GemSpool D → ℕ → ℕ → List ℕ →
     Result (GemSpool D × PutAnswer) (Spent D) → Type 0
 Puts members g stream function body (Ok r) = PutsInto members g stream function body r.0 r.1
 Puts members g stream function body (Err spent) =
     HasPut members g.spool stream function body spent.disk Failed
     × StagesAndSeals members g.spool stream function body (Err spent)
-    × (IsSure (members.health g.spool.disk) 4 (length body + 15) →
-    HasLostPut members g.spool stream function body spent.disk)
 
 -- a message that fits was put, and has the next number; or the disk failed
 abbrev pub Stores : {D : Type 0} → disk.Ghosts D → GemSpool D → ℕ → ℕ → List ℕ → Result (GemSpool D) (Spent D) → Type 0
@@ -138,58 +139,10 @@ list_after_confirm false list = list
 
 -- ---- purge
 
--- so many messages were dropped, one by one
-abbrev pub DropsSome : {D : Type 0} → disk.Ghosts D → ℕ → SpoolView D → SpoolView D → Type 0
-DropsSome {D} members zero v w = w ≡ v
-DropsSome {D} members (suc n) v w = (u : SpoolView D) × DropsSome members n v u × Drops members u (Ok w)
-
--- the file without any message, each of whose slots was closed
-abbrev pub emptied : SpoolFile → SpoolFile
-emptied file = record {
-  slots = file.slots;
-  gates = shut_for file.slots file.list file.gates;
-  mark = file.mark;
-  list = [];
-}
-
--- bytes that stand for the list with at most so many first messages gone
-abbrev pub IsRest : ℕ → List ℕ → List ℕ → Type 0
-IsRest most bytes image = (n : ℕ) × (n ≤ most) × StandsFor image (without_some n (file_in bytes))
-
--- a crash leaves the list with some first messages gone; two calls a message were made, if none failed, and each
--- message takes one number
-pub record HasPurged {D : Type 0} (members : disk.Ghosts D) (v : SpoolView D) (after : D) (answer : DiskAnswer) :
-    Type 0 where
-  pub even : v.next ≡ v.first + v.len
-  pub images : HoldsThrough (members.told v.disk) (members.told after) (IsRest v.len)
-  pub cause : HasCause (members.health v.disk) (members.health after) (2 * v.len) v.len
-      ((members.health v.disk).room < v.len) answer
-
--- a drop failed behind so many others, and the gate decides of its message
-pub record HasLostPurge {D : Type 0} (members : disk.Ghosts D) (v : SpoolView D) (n : ℕ) (after : D) : Type 0 where
-  pub early : IsPlanned (members.health v.disk) (2 * n) → ⊥
-  pub planned : IsPlanned (members.health v.disk) (2 * suc n)
-  pub leaves : (s t : Story) → members.told v.disk ≡ Some s → members.told after ≡ Some t → (choice : CutChoice) →
-      StandsFor (image_of choice t) (file_left (gate_counts choice (λ gate. not (gate == 90)))
-      (without_some (suc n) (file_in s.now.bytes)) (without_some n (file_in s.now.bytes)))
-
--- the list is empty, each message dropped; or one of the drops failed
-abbrev pub Purges : {D : Type 0} → disk.Ghosts D → SpoolView D → Result (SpoolView D) (Spent D) → Type 0
-Purges {D} members v (Ok w) =
-    HasPurged members v w.disk Done
-    × DropsSome members v.len v w
-    × (w ≡ in_hand w.disk (record (known_of v) { first = v.next; len = 0 }))
-    × ((s t : Story) → members.told v.disk ≡ Some s → members.told w.disk ≡ Some t →
-    Ends t (emptied (file_in s.now.bytes)))
-Purges {D} members v (Err spent) =
-    HasPurged members v spent.disk Failed
-    × ((n : ℕ) × (u : SpoolView D) × DropsSome members n v u × Drops members u (Err (dropping.Failed spent))
-    × (IsSure (members.health v.disk) (2 * v.len) v.len → HasLostPurge members v n spent.disk))
-
--- the same of the equipment's spool
+-- the list is empty, and the switch as it was; or that failed
 abbrev pub PurgesAll : {D : Type 0} → disk.Ghosts D → GemSpool D → Result (GemSpool D) (Spent D) → Type 0
-PurgesAll members g (Ok h) = Purges members g.spool (Ok h.spool) × (h.active ≡ g.active)
-PurgesAll members g (Err spent) = Purges members g.spool (Err spent)
+PurgesAll members g (Ok h) = Clears members g.spool (Ok h.spool) × (h.active ≡ g.active)
+PurgesAll members g (Err spent) = Clears members g.spool (Err spent)
 
 -- ---- reserve
 

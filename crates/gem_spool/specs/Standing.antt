@@ -36,13 +36,14 @@ abbrev pub blanks : ℕ → ℕ → List Message
 blanks first zero = []
 blanks first (suc n) = record { number = first; stream = 0; function = 1; body = [] } ∷ blanks (first + 1) n
 
--- the file that a disk tells; where it tells none, one of so many messages and this mark, in which no slot is open and
--- the first copy of the mark counts
+-- the file that a disk tells; where it tells none, one of so many messages and this mark, in which no slot is open, the
+-- floor is the first number, and the first copy of each cell counts
 abbrev pub file_told : Option Story → Known → SpoolFile
 file_told None known = record {
   slots = known.slots;
   gates = replicate known.slots false;
   mark = record { value = known.mark; second = false };
+  floor = record { value = known.first; second = false };
   list = blanks known.first known.len;
 }
 file_told (Some s) known = file_in s.now.bytes

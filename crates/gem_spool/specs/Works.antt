@@ -1,6 +1,6 @@
 -- What a list of works does to the spool of the equipment (this profile).
-use Rattle.std.specs.Prelude.{◌≡◌, ◌⊎◌, ℕ, ◌+◌, ◌*◌, ◌-◌, ◌%◌, ◌<◌, ◌≤◌}
-use Rattle.std.specs.Prelude.{Bool, true, false, List, [], ◌∷◌, ◌++◌, drop, fold, length, set, take, Option, Some, None, Result, Ok, Err}
+use Rattle.std.specs.Prelude.{◌≡◌, ◌⊎◌, ℕ, ◌+◌, ◌-◌, ◌%◌, ◌<◌, Bool, true, false, if◌then◌else◌}
+use Rattle.std.specs.Prelude.{List, [], ◌∷◌, ◌++◌, drop, fold, length, set, take, Option, Some, None, Result, Ok, Err}
 use Rattle.std.specs.List.{slice_get}
 use Rattle.disk_base.specs.Faults.{HasCause}
 use Rattle.disk_base.specs.Story.{Story}
@@ -8,6 +8,9 @@ use Rattle.disk_base.specs.Through.{EachImage, GoesThrough}
 use Rattle.disk_base.specs.declared.disk.Disk as disk
 use Rattle.disk_base.specs.declared.disk.DiskAnswer.{DiskAnswer}
 use Rattle.disk_base.specs.declared.disk.DiskAnswer.TheVariants.{Done, Failed}
+use Rattle.gate_cell.specs.Cell.{Cell, with_value}
+use Rattle.gem_spool.specs.Updates.{Gate, IsAmidUpdates, Update, calls_in, cell_update, closing, gated, opening, reads}
+use Rattle.gem_spool.specs.Updates.{syncs, writes}
 use Rattle.gem_spool.specs.Spool.{HasList, PurgesAll, Stores, room_in}
 use Rattle.gem_spool.specs.declared.count.Count.{Count}
 use Rattle.gem_spool.specs.Standing.{Standing, Stands, count_in, count_of}
@@ -18,9 +21,12 @@ use Rattle.gem_spool.specs.declared.spool.Room.TheVariants as room
 use Rattle.gem_spool.specs.declared.works.Undone.{Undone}
 use Rattle.gem_spool.specs.declared.works.Work.{Work}
 use Rattle.gem_spool.specs.declared.works.Work.TheVariants as work
-use Rattle.spool_slots.specs.Changes.{Drops, shut_for, with_mark_moved, without_some}
-use Rattle.spool_slots.specs.File.{SpoolFile, StandsFor}
-use Rattle.spool_slots.specs.Slot.{Message}
+use Rattle.spool_slots.specs.Area.{first_of}
+use Rattle.spool_slots.specs.Changes.{Drops, parts_of, with_mark_moved, with_shut}
+use Rattle.spool_slots.specs.File.{SpoolFile, StandsFor, is_open_at}
+use Rattle.spool_slots.specs.Front.{floor_cell}
+use Rattle.spool_slots.specs.Logs.{written_by}
+use Rattle.spool_slots.specs.Slot.{Message, slot_place}
 use Rattle.spool_slots.specs.declared.states.Dropping.TheVariants as dropping
 use Rattle.spool_slots.specs.declared.states.Spent.{Spent}
 
@@ -48,17 +54,28 @@ list_after next list work.Purge = []
 abbrev pub count_after : Count → Work → Count
 count_after c one = record { slots = c.slots; next = next_after c.next one; len = len_after c.len one }
 
--- which slots are open: that of a message that is put, and no more those of messages that leave
+-- which slots are open: that of a message that is put, and no more that of one that leaves alone
 abbrev pub gates_after : ℕ → SpoolFile → Work → List Bool
 gates_after next file (work.Put stream function body) = set file.gates (next % file.slots) true
-gates_after next file work.DropOldest = shut_for file.slots (take 1 file.list) file.gates
-gates_after next file work.Purge = shut_for file.slots file.list file.gates
+gates_after next file work.DropOldest = set file.gates (first_of file.floor.value file.list % file.slots) false
+gates_after next file work.Purge = file.gates
+
+-- where the list isn't empty, a purge moves the floor to the next number
+abbrev pub floor_above : ℕ → List Message → Cell → Cell
+floor_above next [] floor = floor
+floor_above next (message ∷ list) floor = with_value next floor
+
+abbrev pub floor_after : ℕ → SpoolFile → Work → Cell
+floor_after next file (work.Put stream function body) = file.floor
+floor_after next file work.DropOldest = file.floor
+floor_after next file work.Purge = floor_above next file.list file.floor
 
 abbrev pub file_after : ℕ → SpoolFile → Work → SpoolFile
 file_after next file one = record {
   slots = file.slots;
   gates = gates_after next file one;
   mark = file.mark;
+  floor = floor_after next file one;
   list = list_after next file.list one;
 }
 
@@ -121,29 +138,50 @@ abbrev pub DoesAll : {D : Type 0} → disk.Ghosts D → GemSpool D → List Work
 DoesAll members g [] h = h ≡ g
 DoesAll {D} members g (one ∷ works) h = (u : GemSpool D) × Does members g one (Ok u) × DoesAll members u works h
 
--- ---- what a crash leaves, and what it costs
+-- ---- how it is made on the disk
 
--- bytes stand for the list before a work, or amid it: a purge has taken some first messages off
-abbrev pub IsAmid : Standing → Work → List ℕ → Type 0
-IsAmid st (work.Put stream function body) image = StandsFor image st.file
-IsAmid st work.DropOldest image = StandsFor image st.file
-IsAmid st work.Purge image = (n : ℕ) × (n ≤ length st.file.list) × StandsFor image (without_some n st.file)
+-- where the slot of the next message begins, and that of the oldest one
+abbrev pub next_place : Standing → ℕ
+next_place st = slot_place (st.next % st.file.slots)
 
--- bytes stand for what some first works make, or amid the next one
-abbrev pub IsOnWay : Standing → List Work → List ℕ → Type 0
-IsOnWay st [] image = StandsFor image st.file
-IsOnWay st (one ∷ works) image = IsAmid st one image ⊎ IsOnWay (standing_after st one) works image
+abbrev pub oldest_in : Count → ℕ
+oldest_in c = c.next - c.len
+
+abbrev pub oldest_place : Standing → ℕ
+oldest_place st = slot_place (oldest_in (count_in st) % st.file.slots)
+
+-- the gate of the next slot is stale where it is open: no message stands there
+abbrev pub is_stale : Standing → Bool
+is_stale st = is_open_at st.next st.file
+
+abbrev pub unstale : Standing → Standing
+unstale st = record { next = st.next; file = with_shut st.next st.file }
+
+abbrev pub stale_gate : Standing → Option Gate
+stale_gate st = if is_stale st then Some (closing (next_place st) (unstale st)) else None
+
+-- of an empty list nothing is purged
+abbrev pub purge_updates : List Message → Standing → List Update
+purge_updates [] st = []
+purge_updates (message ∷ list) st = cell_update floor_cell st.file.floor st.next (standing_after st work.Purge) ∷ []
+
+-- a put looks at the gate of its slot, and closes a stale one; the message is written, and then its gate. A drop closes
+-- the gate of the oldest message, and a purge moves the floor
+abbrev pub updates_of : Standing → Work → List Update
+updates_of st (work.Put stream function body) =
+    record { early = reads (next_place st) 1 ∷ []; gate = stale_gate st }
+    ∷ gated (writes (next_place st + 1) (parts_of st.next stream function body) ∷ syncs ∷ [])
+    (opening (next_place st) (standing_after st (work.Put stream function body)))
+    ∷ []
+updates_of st work.DropOldest = gated [] (closing (oldest_place st) (standing_after st work.DropOldest)) ∷ []
+updates_of st work.Purge = purge_updates st.file.list st
 
 -- how many calls of the disk a work makes, and how many bytes it writes
 abbrev pub calls_of : Standing → Work → ℕ
-calls_of st (work.Put stream function body) = 4
-calls_of st work.DropOldest = 2
-calls_of st work.Purge = 2 * length st.file.list
+calls_of st one = length (calls_in (updates_of st one))
 
 abbrev pub bytes_of : Standing → Work → ℕ
-bytes_of st (work.Put stream function body) = length body + 15
-bytes_of st work.DropOldest = 1
-bytes_of st work.Purge = length st.file.list
+bytes_of st one = written_by (calls_in (updates_of st one))
 
 abbrev pub all_calls : Standing → List Work → ℕ
 all_calls st [] = 0
@@ -153,8 +191,28 @@ abbrev pub all_bytes : Standing → List Work → ℕ
 all_bytes st [] = 0
 all_bytes st (one ∷ works) = bytes_of st one + all_bytes (standing_after st one) works
 
+-- ---- what a crash leaves
+
+-- bytes stand for the list before a work, or amid it, or behind it
+abbrev pub IsAmid : Standing → Work → List ℕ → Type 0
+IsAmid st one image = IsAmidUpdates st (updates_of st one) image
+
+-- bytes stand for what some first works make, or amid the next one
+abbrev pub IsOnWay : Standing → List Work → List ℕ → Type 0
+IsOnWay st [] image = StandsFor image st.file
+IsOnWay st (one ∷ works) image = IsAmid st one image ⊎ IsOnWay (standing_after st one) works image
+
+-- each work costs what it does from some standing of its numbers: a disk that doesn't tell its bytes may hold any gates
+abbrev pub Costs : Count → List Work → (calls bytes : ℕ) → Type 0
+Costs c [] calls bytes = (calls ≡ 0) × (bytes ≡ 0)
+Costs c (one ∷ works) calls bytes =
+    (st : Standing) × (c ≡ count_in st)
+    × ((more : ℕ) × (longer : ℕ) × Costs (count_after c one) works more longer
+    × (calls ≡ calls_of st one + more) × (bytes ≡ bytes_of st one + longer))
+
 -- at every moment till then a crash leaves what some of these works make; a fault was counted where a call failed. The
--- numbers of the list say how many calls that are, and how many bytes
+-- numbers of the list say how many calls that are, and how many bytes, but for the gates that puts find; what the disk
+-- tells says it wholly
 pub record GoesOn {D : Type 0} (members : disk.Ghosts D) (g : GemSpool D) (works : List Work) (after : D)
     (said : DiskAnswer) : Type 0 where
   pub images : (st : Standing) → Stands members g.spool st → (s : Story) → members.told g.spool.disk ≡ Some s →
@@ -163,7 +221,8 @@ pub record GoesOn {D : Type 0} (members : disk.Ghosts D) (g : GemSpool D) (works
   pub wrote : ℕ
   pub cause : HasCause (members.health g.spool.disk) (members.health after) made wrote
       ((members.health g.spool.disk).room < wrote) said
-  pub are : (st : Standing) → count_of g.spool ≡ count_in st →
+  pub costs : Costs (count_of g.spool) works made wrote
+  pub are : (st : Standing) → Stands members g.spool st → (s : Story) → members.told g.spool.disk ≡ Some s →
       (made ≡ all_calls st works) × (wrote ≡ all_bytes st works)
 
 -- the device behind a reserve
@@ -200,7 +259,7 @@ pub record HasUndone {D : Type 0} (members : disk.Ghosts D) (g : GemSpool D) (wo
   pub goes_on : GoesOn members g (take undone.at works ++ failed ∷ []) undone.spent.disk Failed
   pub left : (st : Standing) → Stands members g.spool st → (s t : Story) → members.told g.spool.disk ≡ Some s →
       members.told undone.spent.disk ≡ Some t →
-      EachImage (IsOnWay (standings_after st (take undone.at works)) (failed ∷ [])) t.now
+      EachImage (IsAmid (standings_after st (take undone.at works)) failed) t.now
 
 abbrev pub CarriesOut : {D : Type 0} → disk.Ghosts D → GemSpool D → List Work → Result (GemSpool D) (Undone D) →
     Type 0

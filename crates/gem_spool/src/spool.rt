@@ -3,11 +3,12 @@
 ghost use Rattle.std.specs.Prelude.{◌≡◌, ◌+◌, ◌^◌, ◌<◌, ◌≤◌, ◌%◌, nat_lt, [], List, length, IfOk, Some};
 ghost use Rattle.disk_base.specs.Story.{Story};
 ghost use Rattle.disk_base.specs.Through.{GoesThrough};
-ghost use Rattle.gem_spool.specs.Spool.{Confirms, HasList, Purges, PurgesAll, Puts, ReservesMore, Stores};
+ghost use Rattle.gem_spool.specs.Spool.{Confirms, HasList, PurgesAll, Puts, ReservesMore, Stores};
 ghost use Rattle.gem_spool.specs.Spool.{list_after_confirm, list_after_put, numbered, room_for};
 ghost use Rattle.gem_spool.specs.Standing.{Standing, Stands, count_of, standing_of};
 ghost use Rattle.gem_spool.specs.Works.{IsMarked, reserve_disk};
-ghost use Rattle.gem_spool.specs.Works.{standing_after, standing_after_confirm, standing_after_put, standing_after_reserve};
+ghost use Rattle.gem_spool.specs.Works.{standing_after, standing_after_confirm, standing_after_put};
+ghost use Rattle.gem_spool.specs.Works.{standing_after_reserve};
 ghost use Rattle.gem_spool.specs.declared.works.Work.TheVariants.{Purge};
 ghost use Rattle.gem_spool.specs.declared.spool.Room.TheVariants.{Fits};
 ghost use Rattle.spool_slots.specs.Changes.{Looks};
@@ -102,7 +103,8 @@ impl<D: Disk> GemSpool<D> {
 
     /// Puts a message at the end of the list, with the next number. It is stored exactly where there is room for it;
     /// elsewhere the answer is that of `room`, and nothing is asked of the disk. A crash finds the list without the
-    /// message or with it at the end, also where the device is handed back, since a call of it failed.
+    /// message or with it at the end, also where the device is handed back, since a call of it failed. It makes five
+    /// calls of the disk, or seven where the slot is open still for a message that a purge took off.
     pub fn put(self, message: &Stored<'_>) -> Result<(GemSpool<D>, PutAnswer), Spent<D>>
         requires function { message.now.function % 2 ≡ 1 }
         requires stream { message.now.stream < 128 }
@@ -143,7 +145,8 @@ impl<D: Disk> GemSpool<D> {
         }
     }
 
-    /// Takes all messages off the list, the oldest first. A crash finds the list with some first messages gone.
+    /// Takes all messages off the list at once, in five calls of the disk, or in none where there is none. A crash
+    /// finds the list as it was, or empty.
     pub fn purge(self) -> Result<GemSpool<D>, Spent<D>>
         ensures purge { PurgesAll D.Disk self result }
         ensures list { IfOk result (λ h. HasList D.Disk h.spool []) }
@@ -151,7 +154,7 @@ impl<D: Disk> GemSpool<D> {
             IfOk result (λ h. Stands D.Disk h.spool (standing_after st Purge)) }
     {
         let active = self.active;
-        match emptied(self.spool) {
+        match self.spool.clear() {
             Ok(spool) => Ok(GemSpool { spool, active }),
             Err(spent) => Err(spent),
         }
@@ -278,19 +281,4 @@ impl GemSpool<MemDisk> {
     {
         self.spool.stops_in()
     }
-}
-
-// Takes all messages off, the oldest first.
-fn emptied<D: Disk>(spool: Spool<D>) -> Result<Spool<D>, Spent<D>>
-    ensures { Purges D.Disk spool result }
-{
-    let mut spool = spool;
-    'drops: for _ in 0..spool.len() {
-        match spool.drop_oldest() {
-            Ok(less) => spool = less,
-            Err(Dropping::Empty(same)) => return Ok(same),
-            Err(Dropping::Failed(spent)) => return Err(spent),
-        }
-    }
-    Ok(spool)
 }

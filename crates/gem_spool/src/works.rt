@@ -23,7 +23,7 @@ pub enum Work {
     },
     /// The oldest message leaves, as confirmed or overwritten.
     DropOldest,
-    /// All messages leave, the oldest first.
+    /// All messages leave at once.
     Purge,
 }
 
@@ -32,14 +32,13 @@ pub enum Work {
 pub struct Undone<D> {
     /// Which of them it is, counted from 0.
     pub at: usize,
-    /// The device, on which this one is done or not; of a purge some messages may have left.
+    /// The device, on which this one is done or not.
     pub spent: Spent<D>,
 }
 
 impl<D: Disk> GemSpool<D> {
     /// Carries works out, one after the other. Each of them has to have its message, or room, when its turn comes,
-    /// which the numbers alone decide. A crash finds the list that some first ones make, or the next one of them with
-    /// it; and of a purge the list with some first messages gone.
+    /// which the numbers alone decide. A crash finds the list that some first ones make.
     pub fn carry_out(self, works: &[Work]) -> Result<GemSpool<D>, Undone<D>>
         requires due { AreDue (count_of self.spool) works.now }
         ensures { CarriesOut D.Disk self works.now result }

@@ -1,5 +1,6 @@
 -- The run over the spool's disk: it starts on an empty spool.
-use Rattle.std.proofs.Common.{◌≡◌, ◌<◌, ◌≤◌, ◌+◌, ◌^◌, ◌==◌, ℕ, zero, suc, Bool, false, List, [], ◌∷◌, ◌++◌, replicate, Option, refl, sym, ap, subst, ◌∙◌, arith}
+use Rattle.std.proofs.Common.{◌≡◌, ◌<◌, ◌≤◌, ◌+◌, ◌^◌, ◌==◌, ◌&&◌, nat_le, ℕ, zero, suc, Bool, false, List, [], ◌∷◌}
+use Rattle.std.proofs.Common.{◌++◌, replicate, Option, refl, sym, ap, subst, ◌∙◌, arith}
 use Rattle.std.proofs.lemmas.List.{get_or_past, replicate-append-replicate}
 use Rattle.std.proofs.lemmas.Nat.{from_be_bytes-to_be_bytes_4}
 use Rattle.std.specs.Int.{w32, to_be_bytes}
@@ -44,7 +45,7 @@ none-sent list none = subst AllCanBeSent (sym none) (λ k message within. absurd
 pub holds_empty : (slots : ℕ) (spool : GemSpool DiskState) → IsEmptySpool slots spool → Holds spool
 holds_empty slots spool is = record {
   can = none-sent (file_in spool.spool.disk.story.now.bytes).list (ap (λ (file : SpoolFile). file.list) is.file);
-  first = is.first ∙ sym (ap (λ (file : SpoolFile). first_in file.list) is.file);
+  first = is.first ∙ sym (ap first_in is.file);
   sure = record { fails_not = is.fails_not; stops_not = is.stops_not; going = is.going };
 }
 
@@ -73,17 +74,17 @@ shut slot (suc n) closed =
     ∙ replicate-append-replicate n 1 false
     ∙ ap (λ (k : ℕ). replicate k false) more
 
--- no slot is open where there are no bytes, and the copies and the gate of a mark read as 0
+-- no slot is open where there are no bytes, and the copies and the gate of a cell read as 0
 abbrev blank_bytes : ℕ → List ℕ
 blank_bytes slots = magic ++ to_be_bytes w32 slots
 
 blank-file : (slots : ℕ) → slots < 2 ^ 32 → file_in (blank_bytes slots) ≡ empty_file slots
 unfolding copy_of
 blank-file slots low =
-    ap (λ (n : ℕ). made n (gates_below slot n) (list_below slot n)) (from_be_bytes-to_be_bytes_4 slots low)
-    ∙ ap (λ (gates : List Bool). made slots gates (list_below slot slots)) (shut slot slots closed)
+    ap (λ (n : ℕ). made n (gates_below slot n) (list_below 0 slot n)) (from_be_bytes-to_be_bytes_4 slots low)
+    ∙ ap (λ (gates : List Bool). made slots gates (list_below 0 slot slots)) (shut slot slots closed)
     ∙ ap (λ (list : List Message). made slots (replicate slots false) list)
-    (none_there (slot_stands slot) (slot_message slot) slots closed)
+    (none_there (slot_stands 0 slot) (slot_message slot) slots none)
   where
     slot : ℕ → Slot
     slot k = slot_in (blank_bytes slots) k
@@ -93,6 +94,7 @@ blank-file slots low =
       slots = n;
       gates = gates;
       mark = record { value = 0; second = false };
+      floor = record { value = 0; second = false };
       list = list;
     }
 
@@ -100,6 +102,9 @@ blank-file slots low =
     closed k below =
         let past : 12 ≤ slot_place k = omega arith in
         ap (λ (byte : ℕ). byte == 90) (get_or_past (blank_bytes slots) (slot_place k) 0 past)
+
+    none : (k : ℕ) → k < slots → slot_stands 0 slot k ≡ false
+    none k below = ap (λ (b : Bool). b && nat_le 0 (slot k).head.number) (closed k below)
 
 abbrev pub blank_spool : ℕ → GemSpool DiskState
 blank_spool slots = record {

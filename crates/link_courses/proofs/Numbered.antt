@@ -1,25 +1,24 @@
 -- That the list of a spool file has no gap in its numbers, so that a tool may start over it.
-use Rattle.std.proofs.Common.{◌≡◌, ℕ, zero, suc, ◌+◌, ◌^◌, ◌<◌, ◌≤◌, ◌==◌, nat_lt, Bool, true, false, if◌then◌else◌, List, [], ◌∷◌, length, Some, None, refl, ap, subst, arith, All}
+use Rattle.std.proofs.Common.{◌≡◌, ℕ, zero, suc, ◌+◌, ◌^◌, ◌<◌, ◌≤◌, ◌==◌, nat_lt, Bool, true, false, if◌then◌else◌}
+use Rattle.std.proofs.Common.{List, [], ◌∷◌, length, Some, None, refl, ap, arith, All}
 use Rattle.std.proofs.lemmas.Bool.Decides.{nat_tests}
-use Rattle.spool_slots.specs.Area.{first_of, messages_below, or_else, put_by_number, put_if}
-use Rattle.spool_slots.specs.File.{area_break, end_of, file_in, slot_message, slot_stands, slots_in, spool_break}
-use Rattle.spool_slots.specs.Front.{front_break, front_in, magic_break, mark_break, slots_break, slots_of}
+use Rattle.spool_slots.specs.Area.{first_of, messages_below, put_by_number, put_if}
+use Rattle.spool_slots.specs.File.{area_break, end_of, file_in, floor_in, slot_message, slot_stands, slots_in}
+use Rattle.spool_slots.specs.File.{spool_break}
+use Rattle.spool_slots.specs.Front.{front_break, front_in, slots_break, slots_of}
 use Rattle.spool_slots.specs.Run.{IsRunFrom}
 use Rattle.spool_slots.specs.Slot.{Message, slot_in, slot_place}
 use Rattle.spool_slots.proofs.Areas.{Each}
 use Rattle.spool_slots.proofs.Contents.{IsHeld, each_held}
 use Rattle.spool_slots.proofs.Evens.{chain_run}
 use Rattle.spool_slots.proofs.Firsts.{both_none}
+use Rattle.spool_slots.proofs.Fronts.{IsFront, floor_is, front_of}
 use Rattle.spool_slots.proofs.Gapless.{sound_kept}
 use Rattle.spool_works.specs.Found.{first_in}
 use Rattle.equipment_node.proofs.FoundBytes.{found-sent}
 use Rattle.tool_spool.specs.SpoolKept.{MayHold}
 
 -- ---- a list in its bounds
-
-same-first : (list : List Message) → first_of list ≡ first_in list
-same-first [] = refl
-same-first (x ∷ list) = refl
 
 length-put : (m : Message) (list : List Message) → length (put_by_number m list) ≡ suc (length list)
 length-put m [] = refl
@@ -41,10 +40,10 @@ no-longer stands message (suc n) = go (stands n) (no-longer stands message n)
         omega (arith, less, more)
     go false less = omega (arith, less)
 
-in-bounds : (list : List Message) (slots : ℕ) → Each IsHeld list → length list ≤ slots → slots ≤ 65535
-    → first_in list + length list ≤ 2 ^ 63 + 65535
-in-bounds [] slots each less most = omega arith
-in-bounds (x ∷ list) slots each less most =
+in-bounds : (floor : ℕ) (list : List Message) (slots : ℕ) → floor ≤ 2 ^ 63 → Each IsHeld list → length list ≤ slots
+    → slots ≤ 65535 → first_of floor list + length list ≤ 2 ^ 63 + 65535
+in-bounds floor [] slots below each less most = omega (arith, below)
+in-bounds floor (x ∷ list) slots below each less most =
     let low : x.number < 2 ^ 63 = each.0.number in
     omega (arith, low, less, most)
 
@@ -67,35 +66,40 @@ slots-within front size none = within (slots_of front) size (slot_place (slots_o
         → (0 < n) × (n ≤ 65535)
     within n size place none = (grind (arith, nat_tests, none), grind (arith, nat_tests, none))
 
-front-slots : (front : List ℕ) (size : ℕ) → front_break front size ≡ None → slots_break front size ≡ None
-unfolding front_break
-front-slots front size none =
-    (both_none (slots_break front size) (mark_break front)
-    (both_none (magic_break front) (or_else (slots_break front size) (mark_break front)) none).1).0
-
 module _ (bytes : List ℕ) (sound : spool_break bytes ≡ None) where
-  both : (front_break (front_in bytes) (length bytes) ≡ None) × (area_break (slot_in bytes) (slots_in bytes) ≡ None)
-  both = both_none (front_break (front_in bytes) (length bytes)) (area_break (slot_in bytes) (slots_in bytes)) sound
+  both : (front_break (front_in bytes) (length bytes) ≡ None)
+      × (area_break (floor_in bytes) (slot_in bytes) (slots_in bytes) ≡ None)
+  both =
+      both_none (front_break (front_in bytes) (length bytes))
+      (area_break (floor_in bytes) (slot_in bytes) (slots_in bytes)) sound
+
+  front : IsFront (front_in bytes) (length bytes)
+  front = front_of (front_in bytes) (length bytes) both.0
 
   pub has-slots : HasSlots bytes
   has-slots =
-      let within = slots-within (front_in bytes) (length bytes) (front-slots (front_in bytes) (length bytes) both.0) in
+      let within = slots-within (front_in bytes) (length bytes) front.slots in
       record { some = within.0; most = within.1 }
 
-  run : IsRunFrom (first_in (file_in bytes).list) (file_in bytes).list
+  low : floor_in bytes ≤ 2 ^ 63
+  low = let same = floor_is bytes in let least = front.floor in omega (arith, same, least)
+
+  run : IsRunFrom (first_in (file_in bytes)) (file_in bytes).list
   run =
-      subst (λ (n : ℕ). IsRunFrom n (file_in bytes).list) (same-first (file_in bytes).list)
-      (chain_run (first_of (file_in bytes).list) (end_of (file_in bytes).list) (file_in bytes).list refl
-      (sound_kept (slot_in bytes) (slots_in bytes) both.1).kept.chain)
+      chain_run (first_in (file_in bytes)) (end_of (floor_in bytes) (file_in bytes).list) (file_in bytes).list refl
+      (sound_kept (floor_in bytes) (slot_in bytes) (slots_in bytes) both.1).kept.chain
 
   no-more : length (file_in bytes).list ≤ slots_in bytes
-  no-more = no-longer (slot_stands (slot_in bytes)) (slot_message (slot_in bytes)) (slots_in bytes)
+  no-more = no-longer (slot_stands (floor_in bytes) (slot_in bytes)) (slot_message (slot_in bytes)) (slots_in bytes)
 
   -- what the file stands for may be found by a start
   pub may-hold : All (λ byte. byte < 256) bytes → MayHold (file_in bytes)
   may-hold are = record {
     run = run;
     room = no-more;
-    bound = in-bounds (file_in bytes).list (slots_in bytes) (each_held bytes sound) no-more has-slots.most;
+    bound =
+        in-bounds (floor_in bytes) (file_in bytes).list (slots_in bytes) low (each_held bytes sound) no-more
+        has-slots.most;
+    floor = let least = low in omega (arith, least);
     sent = found-sent bytes are sound;
   }

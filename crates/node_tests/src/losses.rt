@@ -42,7 +42,8 @@ struct Loss {
     new: (u64, u32, u64),
 }
 
-static STORES: [Loss; 4] = [
+// (the first call of a put is the look at the gate of its slot)
+static STORES: [Loss; 5] = [
     Loss {
         call: 1,
         notes: b"alarm 7 set\nstoring 1 S5F1 W\n",
@@ -59,7 +60,7 @@ static STORES: [Loss; 4] = [
         call: 3,
         notes: b"alarm 7 set\nstoring 1 S5F1 W\n",
         old: (0, 1, 4096),
-        new: (0, 2, 4096),
+        new: (0, 1, 4096),
     },
     Loss {
         call: 4,
@@ -67,9 +68,15 @@ static STORES: [Loss; 4] = [
         old: (0, 1, 4096),
         new: (0, 2, 4096),
     },
+    Loss {
+        call: 5,
+        notes: b"alarm 7 set\nstoring 1 S5F1 W\n",
+        old: (0, 1, 4096),
+        new: (0, 2, 4096),
+    },
 ];
 
-static OVERWRITES: [Loss; 6] = [
+static OVERWRITES: [Loss; 7] = [
     Loss {
         call: 1,
         notes: b"alarm 7 set\nleaving 0 overwritten\n",
@@ -98,7 +105,7 @@ static OVERWRITES: [Loss; 6] = [
         call: 5,
         notes: b"alarm 7 set\nleaving 0 overwritten\ngone 0\nstoring 2 S5F1 W\n",
         old: (1, 1, 4096),
-        new: (1, 2, 4096),
+        new: (1, 1, 4096),
     },
     Loss {
         call: 6,
@@ -106,32 +113,45 @@ static OVERWRITES: [Loss; 6] = [
         old: (1, 1, 4096),
         new: (1, 2, 4096),
     },
+    Loss {
+        call: 7,
+        notes: b"alarm 7 set\nleaving 0 overwritten\ngone 0\nstoring 2 S5F1 W\n",
+        old: (1, 1, 4096),
+        new: (1, 2, 4096),
+    },
 ];
 
-static PURGES: [Loss; 4] = [
+// (the floor is above all messages then, and an empty list begins with it)
+static PURGES: [Loss; 5] = [
     Loss {
         call: 1,
         notes: b"rx S6F23 W 00000009 A50101\nleaving 0 purged\n",
         old: (0, 2, 4096),
-        new: (1, 1, 4096),
+        new: (0, 2, 4096),
     },
     Loss {
         call: 2,
         notes: b"rx S6F23 W 00000009 A50101\nleaving 0 purged\n",
         old: (0, 2, 4096),
-        new: (1, 1, 4096),
+        new: (0, 2, 4096),
     },
     Loss {
         call: 3,
         notes: b"rx S6F23 W 00000009 A50101\nleaving 0 purged\n",
-        old: (1, 1, 4096),
-        new: (0, 0, 4096),
+        old: (0, 2, 4096),
+        new: (0, 2, 4096),
     },
     Loss {
         call: 4,
         notes: b"rx S6F23 W 00000009 A50101\nleaving 0 purged\n",
-        old: (1, 1, 4096),
-        new: (0, 0, 4096),
+        old: (0, 2, 4096),
+        new: (2, 0, 4096),
+    },
+    Loss {
+        call: 5,
+        notes: b"rx S6F23 W 00000009 A50101\nleaving 0 purged\n",
+        old: (0, 2, 4096),
+        new: (2, 0, 4096),
     },
 ];
 

@@ -104,12 +104,12 @@ pub not_recovered : {D : Type 0} (members : trait.Ghosts D) {f g was : Option (L
     (told was was a a) (end_of_refusal refusal)
 not_recovered members old (recovering.NotSpool raw place) (read, breaks) =
     record { written = (wrote_nothing, breaks); kept = inr read.told; count = recovered_count read }
-not_recovered members old (recovering.Failed spent) (inl unsynced) = record {
+not_recovered members old (recovering.Failed spent) (inl unsynced, by) = record {
   written = ([], wrote_nothing, λ s told_is. (file_text (file_in s.now.bytes), refl));
   kept = inl unsynced.told;
   count = unsynced.cause.rose;
 }
-not_recovered members old (recovering.Failed spent) (inr read) = record {
+not_recovered members old (recovering.Failed spent) (inr read, by) = record {
   written = ([], wrote_nothing, λ s told_is. (file_text (file_in s.now.bytes), refl));
   kept = inr read.told;
   count = failed_count old spent.disk (most_reads (members.size_is old)) read;
@@ -121,7 +121,7 @@ pub shows_recovered : {D : Type 0} {members : trait.Ghosts D} {f g : Option (Lis
     → ShowsFile
     (disk_parts f g k l (members.told old) (members.told w.disk) (members.size_is old) (members.health old)
     (members.health w.disk)) out e
-shows_recovered {D} {members} {out = out} old v w e (read, stands) shown shows = record {
+shows_recovered {D} {members} {out = out} old v w e (read, stands, by) shown shows = record {
   written = recovered_text (members.told old) (members.told v.disk) (known_of v) out e read.told
       (λ s told_is. (stands s told_is).0) shows;
   kept = inr (shown.told ∙ read.told);

@@ -1,9 +1,10 @@
 -- Which slots are open, where one of them changes, and where all are closed.
-use Rattle.std.proofs.Common.{◌≡◌, ◌⊎◌, ℕ, zero, suc, ◌+◌, ◌<◌, Bool, false, List, [], ◌∷◌, ◌++◌, length, replicate, length-append, refl, sym, ap, subst, ◌∙◌, arith, inl, inr}
+use Rattle.std.proofs.Common.{◌≡◌, ◌⊎◌, ℕ, zero, suc, ◌+◌, ◌<◌, Bool, false, List, [], ◌∷◌, ◌++◌, length, get_or}
+use Rattle.std.proofs.Common.{replicate, length-append, refl, sym, ap, subst, ◌∙◌, arith, inl, inr}
 use Rattle.std.proofs.Math.ListN.{set}
-use Rattle.std.proofs.Math.Seq.{set-append_seam}
+use Rattle.std.proofs.Math.Seq.{get_or-append_seam, set-append_seam}
 use Rattle.std.proofs.lemmas.Bool.{cases_eq}
-use Rattle.std.proofs.lemmas.List.{replicate-append-replicate, set-append_left}
+use Rattle.std.proofs.lemmas.List.{get_or_append_left, replicate-append-replicate, set-append_left, set-get_or}
 use Rattle.spool_slots.specs.File.{gates_below}
 use Rattle.spool_slots.specs.Slot.{Slot, is_open}
 
@@ -11,6 +12,23 @@ pub length-gates : (slot : ℕ → Slot) (n : ℕ) → length (gates_below slot 
 length-gates slot zero = refl
 length-gates slot (suc n) =
     omega (arith, length-append (gates_below slot n) (is_open (slot n) ∷ []), length-gates slot n)
+
+-- one of them
+gate_or : (slot : ℕ → Slot) (n k : ℕ) → (k ≡ n) ⊎ (k ≡ n → ⊥) → k < suc n →
+    (k < n → get_or (gates_below slot n) k false ≡ is_open (slot k)) →
+    get_or (gates_below slot n ++ is_open (slot n) ∷ []) k false ≡ is_open (slot k)
+gate_or slot n k (inl here) below before =
+    let long : length (gates_below slot n) ≡ k = length-gates slot n ∙ sym here in
+    ap (λ (i : ℕ). get_or (gates_below slot n ++ is_open (slot n) ∷ []) i false) (sym long)
+    ∙ get_or-append_seam (gates_below slot n) (is_open (slot n)) [] false ∙ ap (λ (i : ℕ). is_open (slot i)) (sym here)
+gate_or slot n k (inr other) below before =
+    let less : k < n = grind (arith, below, other) in
+    get_or_append_left (gates_below slot n) (is_open (slot n) ∷ []) false k (omega (arith, less, length-gates slot n))
+    ∙ before less
+
+pub gate_at : (slot : ℕ → Slot) (n k : ℕ) → k < n → get_or (gates_below slot n) k false ≡ is_open (slot k)
+gate_at slot zero k below = absurd (omega (arith, below))
+gate_at slot (suc n) k below = gate_or slot n k (cases_eq k n) below (gate_at slot n k)
 
 -- all are closed
 pub shut_gates : (slot : ℕ → Slot) (n : ℕ) → ((k : ℕ) → k < n → is_open (slot k) ≡ false) →
@@ -57,3 +75,7 @@ module _ (f g : ℕ → Slot) where
     one_gate zero below same = absurd (omega (arith, below))
     one_gate (suc n) below same =
         by_place n (cases_eq j n) below same (λ less. one_gate n less (λ k under. same k (omega (arith, under))))
+
+-- shut where it is shut
+pub shut_again : (gates : List Bool) (k : ℕ) → get_or gates k false ≡ false → set gates k false ≡ gates
+shut_again gates k shut = ap (λ (b : Bool). set gates k b) (sym shut) ∙ set-get_or gates k false

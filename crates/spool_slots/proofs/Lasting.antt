@@ -1,5 +1,7 @@
 -- What a write and its sync do to a spool on the disk.
-use Rattle.std.proofs.Common.{◌≡◌, ℕ, ◌+◌, ◌%◌, ◌<◌, ◌≤◌, ◌==◌, Bool, true, false, List, [], ◌∷◌, length, Option, Some, None, Ok, length-append, length-drop, ◌-◌, refl, sym, ap, subst, ◌∙◌, arith, inl, inr}
+use Rattle.std.proofs.Common.{◌≡◌, ℕ, ◌+◌, ◌%◌, ◌<◌, ◌≤◌, ◌==◌, Bool, true, false, not, List, [], ◌∷◌, length, Option}
+use Rattle.std.proofs.Common.{Some, None, Ok, length-append, length-drop, ◌-◌, refl, sym, ap, subst, ◌∙◌, arith, inl}
+use Rattle.std.proofs.Common.{inr}
 use Rattle.std.proofs.lemmas.Nat.{mod_below}
 use Rattle.std.specs.Option.{option_map}
 use Rattle.disk_base.specs.Settle.{Settles}
@@ -10,20 +12,26 @@ use Rattle.disk_base.specs.declared.disk.DiskAnswer.{DiskAnswer}
 use Rattle.disk_base.specs.declared.disk.DiskAnswer.TheVariants.{Done}
 use Rattle.disk_base.proofs.Moments.{settle_through, through_more}
 use Rattle.disk_base.proofs.Marks.{length-part}
-use Rattle.spool_slots.specs.Changes.{Ends, HoldsThrough, IsSame, IsSameOr, HasDropped, Drops, HasSealed, Seals, HasSettled, dropped_in, sealed_in}
-use Rattle.spool_slots.specs.File.{SpoolFile, StandsFor, file_in, list_below, slot_message, slot_stands}
+use Rattle.spool_slots.specs.Changes.{Drops, Ends, HasDropped, HasSealed, HasSettled, HoldsThrough, IsSame, IsSameOr}
+use Rattle.spool_slots.specs.Changes.{Seals, dropped_in, sealed_in, shut_in}
+use Rattle.spool_slots.specs.File.{SpoolFile, StandsFor, file_in, floor_in, list_below, slot_message, slot_stands}
+use Rattle.spool_slots.specs.Losses.{file_left, opens}
 use Rattle.spool_slots.specs.Run.{IsChainFrom}
-use Rattle.spool_slots.specs.Slot.{is_open, message_of, slot_in, slot_place}
+use Rattle.spool_slots.specs.Slot.{is_open, message_of, slot_in, slot_place, stands_on}
 use Rattle.spool_slots.specs.Spool.{HasParts, IsSpool, IsStagedSpool, Rests, in_hand}
 use Rattle.spool_slots.specs.declared.recovery.Known.{Known}
 use Rattle.spool_slots.proofs.Gapless.{good_is, good_width}
-use Rattle.spool_slots.proofs.Moves.{close_chain, close_less, kept, listed, open_chain, open_more, parts_same, shut_same, still_same, width_there}
+use Rattle.spool_slots.proofs.Moves.{close_chain, close_less, kept, listed, open_chain, open_more, parts_same}
+use Rattle.spool_slots.proofs.Moves.{shut_same, shut_stale, stands_open, still_same, width_there}
 use Rattle.spool_slots.proofs.Runs.{free, oldest}
 
 -- a write with its sync over settled bytes, of which any such part leaves P
-pub lasts : (before after : Option Story) (at : ℕ) (bytes : List ℕ) (answer : DiskAnswer) (P : List ℕ → List ℕ → Type 0) →
-    ((s : Story) → before ≡ Some s → s.now.loose ≡ []) → ((s : Story) → before ≡ Some s → at + length bytes ≤ length s.now.bytes) →
-    ((s : Story) → before ≡ Some s → (part : List ℕ) → length part ≡ length bytes → P s.now.bytes (with_part s.now.bytes at part)) →
+pub lasts : (before after : Option Story) (at : ℕ) (bytes : List ℕ) (answer : DiskAnswer)
+    (P : List ℕ → List ℕ → Type 0) →
+    ((s : Story) → before ≡ Some s → s.now.loose ≡ []) →
+    ((s : Story) → before ≡ Some s → at + length bytes ≤ length s.now.bytes) →
+    ((s : Story) → before ≡ Some s → (part : List ℕ) → length part ≡ length bytes →
+    P s.now.bytes (with_part s.now.bytes at part)) →
     Settles before at bytes after answer → HoldsThrough before after P
 lasts before after at bytes answer P settled inside leaves settles s is =
     let goes = settle_through s at bytes after answer (settled s is) (inside s is)
@@ -35,53 +43,92 @@ lasts before after at bytes answer P settled inside leaves settles s is =
     )
 
 module _ (s : Story) (k : Known) (is : Rests s k) (some : 1 ≤ k.slots) where
-  pub count_is : k.len ≡ length (list_below (slot_in s.now.bytes) k.slots)
-  count_is = is.count ∙ ap length (listed s.now.bytes k.slots k.first k.next is.sound is.inside is.slots_are is.chain)
+  pub count_is : k.len ≡ length (list_below (floor_in s.now.bytes) (slot_in s.now.bytes) k.slots)
+  count_is = is.count ∙ ap length
+      (listed s.now.bytes k.slots k.first k.next is.sound is.inside is.slots_are is.low is.chain)
 
   place_below : (n : ℕ) → n % k.slots < k.slots
   place_below n = mod_below n k.slots (omega (arith, some))
 
-  -- the slot of the next message is closed
-  pub next_closed : k.next < k.first + k.slots → is_open (slot_in s.now.bytes (k.next % k.slots)) ≡ false
-  next_closed room =
-      free (slot_stands (slot_in s.now.bytes)) (slot_message (slot_in s.now.bytes)) k.slots k.first k.next
-      (kept s.now.bytes k.slots k.first k.next is.sound is.inside is.slots_are is.chain)
+  -- the slot of the next message holds none
+  pub next_absent : k.next < k.first + k.slots →
+      stands_on (floor_in s.now.bytes) (slot_in s.now.bytes (k.next % k.slots)) ≡ false
+  next_absent room =
+      free (slot_stands (floor_in s.now.bytes) (slot_in s.now.bytes)) (slot_message (slot_in s.now.bytes)) k.slots
+      k.first k.next
+      (kept s.now.bytes k.slots k.first k.next is.sound is.inside is.slots_are is.low is.chain)
       k.next (k.next % k.slots) (omega arith) room (place_below k.next) refl
 
-  -- parts that are written there leave the list
-  pub parts_leave : k.next < k.first + k.slots → (part : List ℕ) → 1 + length part ≤ 4096 →
+  -- parts that are written there, where it is closed, leave the file
+  pub parts_leave : is_open (slot_in s.now.bytes (k.next % k.slots)) ≡ false → (part : List ℕ) →
+      1 + length part ≤ 4096 →
       IsSame s.now.bytes (with_part s.now.bytes (slot_place (k.next % k.slots) + 1) part)
-  parts_leave room part short =
-      parts_same s.now.bytes k.slots k.first k.next is.sound is.inside is.slots_are is.chain (k.next % k.slots) (place_below k.next)
-      (next_closed room) part short
+  parts_leave closed part short =
+      parts_same s.now.bytes k.slots k.first k.next is.sound is.inside is.slots_are is.low is.chain (k.next % k.slots)
+      (place_below k.next)
+      closed part short
+
+  -- where it is open, a gate there leaves the file as it was, or with this gate shut
+  pub stale_by : k.next < k.first + k.slots → is_open (slot_in s.now.bytes (k.next % k.slots)) ≡ true →
+      (gate : ℕ) (b : Bool) → opens gate ≡ b →
+      StandsFor (with_part s.now.bytes (slot_place (k.next % k.slots)) (gate ∷ []))
+      (file_left (not b) (shut_in k.next s.now.bytes) (file_in s.now.bytes))
+  stale_by room opened gate true test =
+      still_same s.now.bytes k.slots k.first k.next is.sound is.inside is.slots_are is.low is.chain (k.next % k.slots)
+      (place_below k.next) gate opened test
+  stale_by room opened gate false test =
+      shut_stale s.now.bytes k.slots k.first k.next is.sound is.inside is.slots_are is.low is.chain (k.next % k.slots)
+      (place_below k.next) gate
+      (next_absent room) k.next refl test
+
+  pub shut_leaves : k.next < k.first + k.slots → is_open (slot_in s.now.bytes (k.next % k.slots)) ≡ true → (gate : ℕ) →
+      IsSameOr (shut_in k.next) s.now.bytes (with_part s.now.bytes (slot_place (k.next % k.slots)) (gate ∷ []))
+  shut_leaves room opened gate = either (opens gate) refl where
+    either : (b : Bool) → opens gate ≡ b →
+        IsSameOr (shut_in k.next) s.now.bytes (with_part s.now.bytes (slot_place (k.next % k.slots)) (gate ∷ []))
+    either true test = inl (stale_by room opened gate true test)
+    either false test = inr (stale_by room opened gate false test)
 
   -- a gate there leaves it, or lengthens it
-  pub seal_leaves : k.next < k.first + k.slots → HasParts s k.slots k.next → (gate : ℕ) →
-      IsSameOr (sealed_in (k.next % k.slots)) s.now.bytes (with_part s.now.bytes (slot_place (k.next % k.slots)) (gate ∷ []))
-  seal_leaves room parts gate = by_gate (gate == 90) refl where
+  pub seal_leaves : HasParts s k.slots k.next → (gate : ℕ) →
+      IsSameOr (sealed_in (k.next % k.slots)) s.now.bytes
+      (with_part s.now.bytes (slot_place (k.next % k.slots)) (gate ∷ []))
+  seal_leaves parts gate = by_gate (gate == 90) refl where
     by_gate : (b : Bool) → (gate == 90) ≡ b →
-        IsSameOr (sealed_in (k.next % k.slots)) s.now.bytes (with_part s.now.bytes (slot_place (k.next % k.slots)) (gate ∷ []))
-    by_gate true test = inr (open_more s.now.bytes k.slots k.first k.next is.sound is.inside is.slots_are is.chain (k.next % k.slots)
-        (place_below k.next) gate (next_closed room) test parts.fields parts.number)
-    by_gate false test = inl (shut_same s.now.bytes k.slots k.first k.next is.sound is.inside is.slots_are is.chain (k.next % k.slots)
-        (place_below k.next) gate (next_closed room) test)
+        IsSameOr (sealed_in (k.next % k.slots)) s.now.bytes
+        (with_part s.now.bytes (slot_place (k.next % k.slots)) (gate ∷ []))
+    by_gate true test = inr
+        (open_more s.now.bytes k.slots k.first k.next is.sound is.inside is.slots_are is.low is.chain (k.next % k.slots)
+        (place_below k.next) gate parts.closed test parts.fields parts.number)
+    by_gate false test = inl
+        (shut_same s.now.bytes k.slots k.first k.next is.sound is.inside is.slots_are is.low is.chain (k.next % k.slots)
+        (place_below k.next) gate parts.closed test)
 
   -- the oldest message stands in the slot of the first number
-  pub first_there : 0 < k.len → (k.first % k.slots < k.slots) × (is_open (slot_in s.now.bytes (k.first % k.slots)) ≡ true)
+  pub first_there : 0 < k.len →
+      (k.first % k.slots < k.slots)
+      × (stands_on (floor_in s.now.bytes) (slot_in s.now.bytes (k.first % k.slots)) ≡ true)
       × ((slot_in s.now.bytes (k.first % k.slots)).head.number ≡ k.first)
   first_there one =
-      oldest (slot_stands (slot_in s.now.bytes)) (slot_message (slot_in s.now.bytes)) k.slots k.first k.next
-      (kept s.now.bytes k.slots k.first k.next is.sound is.inside is.slots_are is.chain)
+      oldest (slot_stands (floor_in s.now.bytes) (slot_in s.now.bytes)) (slot_message (slot_in s.now.bytes)) k.slots
+      k.first k.next
+      (kept s.now.bytes k.slots k.first k.next is.sound is.inside is.slots_are is.low is.chain)
       (k.first % k.slots) refl (omega (arith, one, count_is))
 
   -- a gate there leaves it, or shortens it
   pub drop_leaves : 0 < k.len → (gate : ℕ) →
       IsSameOr dropped_in s.now.bytes (with_part s.now.bytes (slot_place (k.first % k.slots)) (gate ∷ []))
   drop_leaves one gate = by_gate (gate == 90) refl where
-    by_gate : (b : Bool) → (gate == 90) ≡ b → IsSameOr dropped_in s.now.bytes (with_part s.now.bytes (slot_place (k.first % k.slots)) (gate ∷ []))
-    by_gate true test = inl (still_same s.now.bytes k.slots k.first k.next is.sound is.inside is.slots_are is.chain (k.first % k.slots)
-        (first_there one).0 gate (first_there one).1 (first_there one).2 test)
-    by_gate false test = inr (close_less s.now.bytes k.slots k.first k.next is.sound is.inside is.slots_are is.chain (k.first % k.slots)
+    by_gate : (b : Bool) → (gate == 90) ≡ b →
+        IsSameOr dropped_in s.now.bytes (with_part s.now.bytes (slot_place (k.first % k.slots)) (gate ∷ []))
+    by_gate true test = inl
+        (still_same s.now.bytes k.slots k.first k.next is.sound is.inside is.slots_are is.low is.chain
+        (k.first % k.slots)
+        (first_there one).0 gate
+        (stands_open (floor_in s.now.bytes) (slot_in s.now.bytes (k.first % k.slots)) (first_there one).1) test)
+    by_gate false test = inr
+        (close_less s.now.bytes k.slots k.first k.next is.sound is.inside is.slots_are is.low is.chain
+        (k.first % k.slots)
         (first_there one).0 gate (first_there one).1 (first_there one).2 test)
 
 -- a part of one byte
@@ -103,46 +150,64 @@ after_settle None after at bytes P holds settles t is = absurd (grind (arith, se
 after_settle (Some s) after at bytes P holds settles t is =
     subst P (ap (λ o. story_or t o) (sym settles ∙ is)) (holds s refl)
 
-pub done_at : (before after : Option Story) (at : ℕ) (bytes : List ℕ) (s t : Story) → Settles before at bytes after Done → before ≡ Some s →
+pub done_at : (before after : Option Story) (at : ℕ) (bytes : List ℕ) (s t : Story) →
+    Settles before at bytes after Done → before ≡ Some s →
     after ≡ Some t → with_sync (with_write at bytes s) ≡ t
 done_at before after at bytes s t settles is_s is_t =
     ap (λ o. story_or t o) (sym (ap (option_map (λ s. with_sync (with_write at bytes s))) is_s) ∙ sym settles ∙ is_t)
 
--- what was written and synced stands for a file
-pub rests_now : (s : Story) (at : ℕ) (bytes : List ℕ) (file : SpoolFile) (k : Known) →
-    at + length bytes ≤ length s.now.bytes → slot_place k.slots ≤ length s.now.bytes → StandsFor (with_part s.now.bytes at bytes) file →
-    k.slots ≡ file.slots → k.mark ≡ file.mark.value → IsChainFrom k.first k.next file.list → k.len ≡ length file.list →
-    Rests (with_sync (with_write at bytes s)) k
-rests_now s at bytes file k within inside stands slots_are mark_is chain count = record {
-  settled = refl;
+-- settled bytes that stand for a file
+pub rests_for : (t : Story) (file : SpoolFile) (k : Known) → t.now.loose ≡ [] →
+    slot_place k.slots ≤ length t.now.bytes → StandsFor t.now.bytes file →
+    k.slots ≡ file.slots → k.mark ≡ file.mark.value → file.floor.value ≤ k.first →
+    IsChainFrom k.first k.next file.list → k.len ≡ length file.list →
+    Rests t k
+rests_for t file k settled inside stands slots_are mark_is low chain count = record {
+  settled = settled;
   sound = stands.sound;
-  inside = omega (arith, inside, length-part s.now.bytes bytes at within);
+  inside = inside;
   slots_are = slots_are ∙ ap (λ (f : SpoolFile). f.slots) stands.is;
   mark_is = mark_is ∙ ap (λ (f : SpoolFile). f.mark.value) stands.is;
+  low = subst (λ (f : SpoolFile). f.floor.value ≤ k.first) stands.is low;
   chain = subst (λ (f : SpoolFile). IsChainFrom k.first k.next f.list) stands.is chain;
   count = count ∙ ap (λ (f : SpoolFile). length f.list) stands.is;
 }
+
+-- what was written and synced
+pub rests_now : (s : Story) (at : ℕ) (bytes : List ℕ) (file : SpoolFile) (k : Known) →
+    at + length bytes ≤ length s.now.bytes → slot_place k.slots ≤ length s.now.bytes →
+    StandsFor (with_part s.now.bytes at bytes) file →
+    k.slots ≡ file.slots → k.mark ≡ file.mark.value → file.floor.value ≤ k.first →
+    IsChainFrom k.first k.next file.list → k.len ≡ length file.list →
+    Rests (with_sync (with_write at bytes s)) k
+rests_now s at bytes file k within inside stands slots_are mark_is low chain count =
+    rests_for (with_sync (with_write at bytes s)) file k refl
+    (omega (arith, inside, length-part s.now.bytes bytes at within)) stands
+    slots_are mark_is low chain count
 
 -- the write of a gate lies within the file
 gate_within : (s : Story) (k : Known) (j : ℕ) → Rests s k → j < k.slots → slot_place j + 1 ≤ length s.now.bytes
 gate_within s k j is below = omega (arith, is.inside, below)
 
 -- the gate of the oldest message's slot was closed
-module _ {D : Type 0} (members : disk.Ghosts D) (d d' : D) (k : Known) (is : IsSpool members (in_hand d k)) (one : 0 < k.len) where
+module _ {D : Type 0} (members : disk.Ghosts D) (d d' : D) (k : Known) (is : IsSpool members (in_hand d k))
+    (one : 0 < k.len) where
   abbrev drop_place : ℕ
   drop_place = slot_place (k.first % k.slots)
 
   drop_below : k.first % k.slots < k.slots
   drop_below = mod_below k.first k.slots (omega (arith, is.some))
 
-  pub drop_does : (answer : DiskAnswer) → HasSettled members d d' drop_place (0 ∷ []) answer → HasDropped members (in_hand d k) d' answer
+  pub drop_does : (answer : DiskAnswer) → HasSettled members d d' drop_place (0 ∷ []) answer →
+      HasDropped members (in_hand d k) d' answer
   drop_does answer done = record {
     some = one;
     even = is.even;
     images = lasts (members.told d) (members.told d') drop_place (0 ∷ []) answer (IsSameOr dropped_in)
         (λ s told. (is.rests s told).settled)
         (λ s told. gate_within s k (k.first % k.slots) (is.rests s told) drop_below)
-        (λ s told. one_byte s.now.bytes drop_place (IsSameOr dropped_in s.now.bytes) (drop_leaves s k (is.rests s told) is.some one))
+        (λ s told. one_byte s.now.bytes drop_place (IsSameOr dropped_in s.now.bytes)
+        (drop_leaves s k (is.rests s told) is.some one))
         done.told;
     disk = done;
   }
@@ -154,25 +219,31 @@ module _ {D : Type 0} (members : disk.Ghosts D) (d d' : D) (k : Known) (is : IsS
     r : Rests s k
     r = is.rests s told
 
-    oldest_there : (k.first % k.slots < k.slots) × (is_open (slot_in s.now.bytes (k.first % k.slots)) ≡ true)
+    oldest_there : (k.first % k.slots < k.slots)
+        × (stands_on (floor_in s.now.bytes) (slot_in s.now.bytes (k.first % k.slots)) ≡ true)
         × ((slot_in s.now.bytes (k.first % k.slots)).head.number ≡ k.first)
     oldest_there = first_there s k r is.some one
 
     less_stands : StandsFor (with_part s.now.bytes drop_place (0 ∷ [])) (dropped_in s.now.bytes)
-    less_stands = close_less s.now.bytes k.slots k.first k.next r.sound r.inside r.slots_are r.chain (k.first % k.slots) oldest_there.0 0
+    less_stands = close_less s.now.bytes k.slots k.first k.next r.sound r.inside r.slots_are r.low r.chain
+        (k.first % k.slots) oldest_there.0 0
         oldest_there.1 oldest_there.2 refl
 
     less_chain : IsChainFrom (k.first + 1) k.next (dropped_in s.now.bytes).list
     less_chain =
         subst (λ (n : ℕ). IsChainFrom (k.first + n) k.next (dropped_in s.now.bytes).list)
-        (width_there s.now.bytes k.slots k.first k.next r.sound r.inside r.slots_are r.chain (k.first % k.slots) oldest_there.0 oldest_there.1)
-        (close_chain s.now.bytes k.slots k.first k.next r.sound r.inside r.slots_are r.chain (k.first % k.slots) oldest_there.0 0
+        (width_there s.now.bytes k.slots k.first k.next r.sound r.inside r.slots_are r.low r.chain (k.first % k.slots)
+        oldest_there.0 oldest_there.1)
+        (close_chain s.now.bytes k.slots k.first k.next r.sound r.inside r.slots_are r.low r.chain (k.first % k.slots)
+        oldest_there.0 0
         oldest_there.1 oldest_there.2 refl)
 
     less_rests : Rests (with_sync (with_write drop_place (0 ∷ []) s)) less
     less_rests =
-        rests_now s drop_place (0 ∷ []) (dropped_in s.now.bytes) less (gate_within s k (k.first % k.slots) r drop_below) r.inside less_stands
-        r.slots_are r.mark_is less_chain (omega (arith, r.count, length-drop 1 (file_in s.now.bytes).list))
+        rests_now s drop_place (0 ∷ []) (dropped_in s.now.bytes) less (gate_within s k (k.first % k.slots) r drop_below)
+        r.inside less_stands
+        r.slots_are r.mark_is (omega (arith, r.low)) less_chain
+        (omega (arith, r.count, length-drop 1 (file_in s.now.bytes).list))
 
   pub drop_spool : HasSettled members d d' drop_place (0 ∷ []) Done → IsSpool members (in_hand d' less)
   drop_spool done = record {
@@ -183,7 +254,8 @@ module _ {D : Type 0} (members : disk.Ghosts D) (d d' : D) (k : Known) (is : IsS
     even = omega (arith, is.even, one);
     numbers = is.numbers;
     mark_most = is.mark_most;
-    rests = after_settle (members.told d) (members.told d') drop_place (0 ∷ []) (λ t. Rests t less) less_rests done.told;
+    rests = after_settle (members.told d) (members.told d') drop_place (0 ∷ []) (λ t. Rests t less) less_rests
+        done.told;
   }
 
   pub drops : HasSettled members d d' drop_place (0 ∷ []) Done → Drops members (in_hand d k) (Ok (in_hand d' less))
@@ -203,16 +275,15 @@ module _ {D : Type 0} (members : disk.Ghosts D) (d d' : D) (k : Known) (is : IsS
   seal_below : seal_slot < k.slots
   seal_below = mod_below k.next k.slots (omega (arith, is.spool.some))
 
-  seal_room : k.next < k.first + k.slots
-  seal_room = omega (arith, is.free, is.spool.even)
-
-  pub seal_does : (answer : DiskAnswer) → HasSettled members d d' (slot_place seal_slot) (90 ∷ []) answer → HasSealed members (in_hand d k) d' answer
+  pub seal_does : (answer : DiskAnswer) → HasSettled members d d' (slot_place seal_slot) (90 ∷ []) answer →
+      HasSealed members (in_hand d k) d' answer
   seal_does answer done = record {
-    images = lasts (members.told d) (members.told d') (slot_place seal_slot) (90 ∷ []) answer (IsSameOr (sealed_in seal_slot))
+    images = lasts (members.told d) (members.told d') (slot_place seal_slot) (90 ∷ []) answer
+        (IsSameOr (sealed_in seal_slot))
         (λ s told. (is.spool.rests s told).settled)
         (λ s told. gate_within s k seal_slot (is.spool.rests s told) seal_below)
         (λ s told. one_byte s.now.bytes (slot_place seal_slot) (IsSameOr (sealed_in seal_slot) s.now.bytes)
-        (seal_leaves s k (is.spool.rests s told) is.spool.some seal_room (is.parts s told)))
+        (seal_leaves s k (is.spool.rests s told) is.spool.some (is.parts s told)))
         done.told;
     disk = done;
   }
@@ -227,25 +298,31 @@ module _ {D : Type 0} (members : disk.Ghosts D) (d d' : D) (k : Known) (is : IsS
     parts : HasParts s k.slots k.next
     parts = is.parts s told
 
-    shut : is_open (slot_in s.now.bytes seal_slot) ≡ false
-    shut = next_closed s k rests is.spool.some seal_room
-
     more_stands : StandsFor (with_part s.now.bytes (slot_place seal_slot) (90 ∷ [])) (sealed_in seal_slot s.now.bytes)
-    more_stands = open_more s.now.bytes k.slots k.first k.next rests.sound rests.inside rests.slots_are rests.chain seal_slot seal_below 90 shut refl
+    more_stands = open_more s.now.bytes k.slots k.first k.next rests.sound rests.inside rests.slots_are rests.low
+        rests.chain seal_slot seal_below 90 parts.closed refl
         parts.fields parts.number
 
     more_chain : IsChainFrom k.first (k.next + 1) (sealed_in seal_slot s.now.bytes).list
     more_chain =
         subst (λ (n : ℕ). IsChainFrom k.first (k.next + n) (sealed_in seal_slot s.now.bytes).list)
-        (good_width k.slots seal_slot (slot_in s.now.bytes seal_slot) (good_is k.slots seal_slot (slot_in s.now.bytes seal_slot).head parts.fields))
-        (open_chain s.now.bytes k.slots k.first k.next rests.sound rests.inside rests.slots_are rests.chain seal_slot seal_below 90 shut refl
+        (good_width k.slots seal_slot (slot_in s.now.bytes seal_slot)
+        (good_is k.slots seal_slot (slot_in s.now.bytes seal_slot).head parts.fields))
+        (open_chain s.now.bytes k.slots k.first k.next rests.sound rests.inside rests.slots_are rests.low rests.chain
+        seal_slot seal_below 90 parts.closed refl
         parts.fields parts.number)
 
     more_rests : Rests (with_sync (with_write (slot_place seal_slot) (90 ∷ []) s)) more
     more_rests =
         rests_now s (slot_place seal_slot) (90 ∷ []) (sealed_in seal_slot s.now.bytes) more
-        (gate_within s k seal_slot rests seal_below) rests.inside more_stands rests.slots_are rests.mark_is more_chain
-        (omega (arith, rests.count, length-append (file_in s.now.bytes).list (message_of (slot_in s.now.bytes seal_slot) ∷ [])))
+        (gate_within s k seal_slot rests seal_below) rests.inside more_stands rests.slots_are rests.mark_is rests.low
+        more_chain
+        (omega (
+          arith,
+          rests.count,
+          length-append (file_in s.now.bytes).list
+              (message_of (slot_in s.now.bytes seal_slot) ∷ []),
+        ))
 
   pub seal_spool : HasSettled members d d' (slot_place seal_slot) (90 ∷ []) Done → IsSpool members (in_hand d' more)
   seal_spool done = record {
@@ -256,10 +333,12 @@ module _ {D : Type 0} (members : disk.Ghosts D) (d d' : D) (k : Known) (is : IsS
     even = omega (arith, is.spool.even);
     numbers = omega (arith, is.number);
     mark_most = is.spool.mark_most;
-    rests = after_settle (members.told d) (members.told d') (slot_place seal_slot) (90 ∷ []) (λ t. Rests t more) more_rests done.told;
+    rests = after_settle (members.told d) (members.told d') (slot_place seal_slot) (90 ∷ []) (λ t. Rests t more)
+        more_rests done.told;
   }
 
-  pub seals : HasSettled members d d' (slot_place seal_slot) (90 ∷ []) Done → Seals members (in_hand d k) (Ok (in_hand d' more))
+  pub seals : HasSettled members d d' (slot_place seal_slot) (90 ∷ []) Done →
+      Seals members (in_hand d k) (Ok (in_hand d' more))
   seals done = (
     seal_does Done done,
     refl,

@@ -1,24 +1,30 @@
 pub mod Added
 pub mod Areas
+mod Celled
 mod CellWrites
 mod Changes
 pub mod Contents
 pub mod Evens
+mod FileLooks
 pub mod Firsts
 mod Found
 mod Fresh
-mod Fronts
+pub mod Fronts
 pub mod Gapless
-mod Gates
+pub mod Gates
 mod Lasting
 mod Lists
 mod Looking
 mod Lost
 mod LostCells
+pub mod Making
 mod Marks
-mod Moves
+pub mod Moves
 mod Parts
 pub mod Runs
-mod Starts
+mod Shutting
+pub mod Stale
+pub mod Starts
 mod Stretches
-mod Written
+mod Together
+pub mod Written

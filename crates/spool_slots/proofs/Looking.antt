@@ -5,7 +5,7 @@ use Rattle.std.specs.List.{slice_get}
 use Rattle.disk_base.specs.Story.{Story, bytes_at}
 use Rattle.disk_base.specs.declared.disk.Disk as disk
 use Rattle.spool_slots.specs.Changes.{IsFound}
-use Rattle.spool_slots.specs.File.{file_in, list_below, slot_message, slot_stands}
+use Rattle.spool_slots.specs.File.{file_in, floor_in, list_below, slot_message, slot_stands}
 use Rattle.spool_slots.specs.Run.{IsRunFrom}
 use Rattle.spool_slots.specs.Slot.{Message, head_of, slot_in, slot_place}
 use Rattle.spool_slots.specs.Spool.{IsSpool, Rests, in_hand}
@@ -15,7 +15,8 @@ use Rattle.spool_slots.proofs.Evens.{chain_run, run_there}
 use Rattle.spool_slots.proofs.Moves.{kept, listed}
 use Rattle.spool_slots.proofs.Runs.{found}
 
-pub looked_on : {D : Type 0} (members : disk.Ghosts D) (d d' : D) (k : Known) → IsSpool members (in_hand d k) → members.told d' ≡ members.told d →
+pub looked_on : {D : Type 0} (members : disk.Ghosts D) (d d' : D) (k : Known) → IsSpool members (in_hand d k) →
+    members.told d' ≡ members.told d →
     members.size_is d' ≡ members.size_is d → IsSpool members (in_hand d' k)
 looked_on members d d' k is told size = record {
   some = is.some;
@@ -28,14 +29,16 @@ looked_on members d d' k is told size = record {
   rests = λ s told'. is.rests s (sym told ∙ told');
 }
 
-slot_head : (bytes into : List ℕ) (at : ℕ) → into ≡ bytes_at bytes at 4096 → bytes_at into 1 14 ≡ bytes_at bytes (at + 1) 14
+slot_head : (bytes into : List ℕ) (at : ℕ) → into ≡ bytes_at bytes at 4096 →
+    bytes_at into 1 14 ≡ bytes_at bytes (at + 1) 14
 slot_head bytes into at is =
     ap (λ (xs : List ℕ). take 14 (drop 1 xs)) is
     ∙ ap (λ (xs : List ℕ). take 14 xs) (drop-take 1 4095 (drop at bytes))
     ∙ take-take 14 4095 (drop 1 (drop at bytes)) (omega arith)
     ∙ ap (λ (xs : List ℕ). take 14 xs) (drop-drop 1 at bytes)
 
-pub found_there : (s : Story) (k : Known) (number : ℕ) (into : List ℕ) (head : SlotHead) → Rests s k → k.next ≡ k.first + k.len →
+pub found_there : (s : Story) (k : Known) (number : ℕ) (into : List ℕ) (head : SlotHead) → Rests s k →
+    k.next ≡ k.first + k.len →
     k.first ≤ number → number < k.next → into ≡ bytes_at s.now.bytes (slot_place (number % k.slots)) 4096 →
     head ≡ head_of (bytes_at into 1 14) → IsFound s k.slots k.first number into head
 found_there s k number into head is even from below bytes head_is =
@@ -43,11 +46,15 @@ found_there s k number into head is even from below bytes head_is =
     let run : IsRunFrom k.first list = chain_run k.first k.next list (omega (arith, even, is.count)) is.chain in
     let there = run_there k.first (number - k.first) list run (omega (arith, from, below, even, is.count)) in
     let number_is : there.0.number ≡ number = omega (arith, there.2, from) in
-    let listed_there : slice_get (list_below (slot_in s.now.bytes) k.slots) (number - k.first) ≡ Some there.0 =
-    ap (λ (l : List Message). slice_get l (number - k.first)) (sym (listed s.now.bytes k.slots k.first k.next is.sound is.inside is.slots_are is.chain))
+    let listed_there : slice_get (list_below (floor_in s.now.bytes) (slot_in s.now.bytes) k.slots)
+    (number - k.first) ≡ Some there.0 =
+    ap (λ (l : List Message). slice_get l (number - k.first))
+    (sym (listed s.now.bytes k.slots k.first k.next is.sound is.inside is.slots_are is.low is.chain))
     ∙ there.1 in
-    let stands = found (slot_stands (slot_in s.now.bytes)) (slot_message (slot_in s.now.bytes)) k.slots k.first k.next
-    (kept s.now.bytes k.slots k.first k.next is.sound is.inside is.slots_are is.chain) (number - k.first) there.0 listed_there in
+    let stands = found (slot_stands (floor_in s.now.bytes) (slot_in s.now.bytes)) (slot_message (slot_in s.now.bytes))
+    k.slots k.first k.next
+    (kept s.now.bytes k.slots k.first k.next is.sound is.inside is.slots_are is.low is.chain) (number - k.first) there.0
+    listed_there in
     record {
       bytes = bytes;
       head_is = head_is ∙ ap head_of (slot_head s.now.bytes into (slot_place (number % k.slots)) bytes);

@@ -1,6 +1,7 @@
 -- What a crash leaves of a gate that was written and not synced.
 use Rattle.std.proofs.lemmas.Nat.{mod_below}
-use Rattle.std.proofs.Common.{◌≡◌, ℕ, if◌then◌else◌, ◌%◌, ◌<◌, ◌==◌, Bool, true, false, not, List, [], ◌∷◌, length, slice_index, Option, Some, None, refl, sym, ap, subst, ◌∙◌, arith, ⊎_elim}
+use Rattle.std.proofs.Common.{◌≡◌, ℕ, if◌then◌else◌, ◌%◌, ◌<◌, ◌==◌, Bool, true, false, not, List, [], ◌∷◌, length}
+use Rattle.std.proofs.Common.{slice_index, Option, Some, None, refl, sym, ap, subst, ◌∙◌, arith, ⊎_elim}
 use Rattle.disk_base.specs.Calls.{DiskCall}
 use Rattle.disk_base.specs.Cut.{chosen_byte, image_of}
 use Rattle.disk_base.specs.Faults.{DiskHealth, IsCrowded}
@@ -13,16 +14,17 @@ use Rattle.disk_base.specs.declared.disk.Disk as disk
 use Rattle.disk_base.specs.declared.disk.DiskAnswer.TheVariants.{Failed}
 use Rattle.disk_base.proofs.Stretches.{both_wider}
 use Rattle.spool_slots.specs.Changes.{HasSettled, dropped_in, sealed_in}
-use Rattle.spool_slots.specs.File.{SpoolFile, StandsFor, file_in}
-use Rattle.spool_slots.specs.Losses.{IsSure, LeavesByGate, file_left, gate_counts}
-use Rattle.spool_slots.specs.Slot.{is_open, slot_in, slot_place}
+use Rattle.spool_slots.specs.File.{SpoolFile, StandsFor, file_in, floor_in}
+use Rattle.spool_slots.specs.Losses.{IsSure, LeavesByGate, LeavesByte, closes, file_left, gate_counts, opens}
+use Rattle.spool_slots.specs.Slot.{is_open, slot_in, slot_place, stands_on}
 use Rattle.spool_slots.specs.Spool.{IsSpool, IsStagedSpool, Rests, in_hand}
 use Rattle.spool_slots.specs.declared.recovery.Known.{Known}
-use Rattle.spool_slots.proofs.Lasting.{first_there, next_closed}
-use Rattle.spool_slots.proofs.Moves.{close_less, open_more, shut_same, still_same}
+use Rattle.spool_slots.proofs.Lasting.{first_there}
+use Rattle.spool_slots.proofs.Moves.{close_less, open_more, shut_same, stands_open, still_same}
 
 pub not_crowded : (h : DiskHealth) (calls n : ℕ) → IsSure h calls n → IsCrowded h calls n → ⊥
-not_crowded h calls n sure = ⊎_elim (λ less. omega (arith, less, sure.calls_fit)) (λ less. omega (arith, less, sure.bytes_fit))
+not_crowded h calls n sure =
+    ⊎_elim (λ less. omega (arith, less, sure.calls_fit)) (λ less. omega (arith, less, sure.bytes_fit))
 
 -- the byte that is left
 pub left_by : (means : ℕ → Bool) (choice : CutChoice) (old new : ℕ) → means old ≡ false → means new ≡ true →
@@ -41,38 +43,52 @@ story_or other (Some s) = s
 
 -- two laws of disks
 abbrev pub HasWrittenLaw : Type 0
-HasWrittenLaw = (s : Story) (at : ℕ) (bytes : List ℕ) (all : List DiskCall) (after : Option Story) (calls : Option (List DiskCall)) →
-    LogsBoth at bytes ⊥ (Some all) calls Failed → AsListed (Some s) (Some all) after calls → after ≡ Some (with_write at bytes s)
+HasWrittenLaw = (s : Story) (at : ℕ) (bytes : List ℕ) (all : List DiskCall) (after : Option Story)
+    (calls : Option (List DiskCall)) →
+    LogsBoth at bytes ⊥ (Some all) calls Failed → AsListed (Some s) (Some all) after calls →
+    after ≡ Some (with_write at bytes s)
 
 abbrev pub ChosenLaw : Type 0
 ChosenLaw = (choice : CutChoice) (s : Story) (at byte : ℕ) → s.now.loose ≡ [] → at < length s.now.bytes →
-    image_of choice (with_write at (byte ∷ []) s) ≡ with_part s.now.bytes at (chosen_byte choice (slice_index s.now.bytes at) byte ∷ [])
+    image_of choice (with_write at (byte ∷ []) s) ≡ with_part s.now.bytes at
+    (chosen_byte choice (slice_index s.now.bytes at) byte ∷ [])
 
--- one gate was written, on a disk that had room for it
-pub gate_left : HasWrittenLaw → ChosenLaw → {D : Type 0} (members : disk.Ghosts D) (d d' : D) (at gate : ℕ) (means : ℕ → Bool) (changed : List ℕ → SpoolFile) →
+-- one byte was written, on a disk that had room for it
+pub byte_left : HasWrittenLaw → ChosenLaw → {D : Type 0} (members : disk.Ghosts D) (d d' : D) (at byte : ℕ) →
     ((s : Story) → members.told d ≡ Some s → (all : List DiskCall) × (members.calls d ≡ Some all)) →
     ((s : Story) → members.told d ≡ Some s → s.now.loose ≡ []) →
     ((s : Story) → members.told d ≡ Some s → at < length s.now.bytes) →
-    ((s : Story) → members.told d ≡ Some s → means (slice_index s.now.bytes at) ≡ false) → means gate ≡ true →
-    ((s : Story) → members.told d ≡ Some s → (other : ℕ) →
-    StandsFor (with_part s.now.bytes at (other ∷ [])) (file_left (means other) (changed s.now.bytes) (file_in s.now.bytes))) →
-    HasSettled members d d' at (gate ∷ []) Failed → IsSure (members.health d) 2 1 →
-    LeavesByGate (members.told d) (members.told d') means changed
-gate_left has_written one_byte_left members d d' at gate means changed called settled inside was is stands done sure s t told told' choice =
+    HasSettled members d d' at (byte ∷ []) Failed → IsSure (members.health d) 2 1 →
+    LeavesByte (members.told d) (members.told d') at byte
+byte_left has_written one_byte_left members d d' at byte called settled inside done sure s t told told' choice =
     let all = called s told in
-    let logs : LogsBoth at (gate ∷ []) ⊥ (Some all.0) (members.calls d') Failed =
-    subst (λ (o : Option (List DiskCall)). LogsBoth at (gate ∷ []) ⊥ o (members.calls d') Failed) all.1
-    (both_wider at (gate ∷ []) _ ⊥ (members.calls d) (members.calls d') Failed (not_crowded (members.health d) 2 1 sure) done.calls) in
+    let logs : LogsBoth at (byte ∷ []) ⊥ (Some all.0) (members.calls d') Failed =
+    subst (λ (o : Option (List DiskCall)). LogsBoth at (byte ∷ []) ⊥ o (members.calls d') Failed) all.1
+    (both_wider at (byte ∷ []) _ ⊥ (members.calls d) (members.calls d') Failed (not_crowded (members.health d) 2 1 sure)
+    done.calls) in
     let listed : AsListed (Some s) (Some all.0) (members.told d') (members.calls d') =
     subst (λ (o : Option (List DiskCall)). AsListed (Some s) o (members.told d') (members.calls d')) all.1
-    (subst (λ (o : Option Story). AsListed o (members.calls d) (members.told d') (members.calls d')) told (done.listed sure.going)) in
-    let written : members.told d' ≡ Some (with_write at (gate ∷ []) s) = has_written s at (gate ∷ []) all.0 (members.told d') (members.calls d') logs listed in
-    let same : with_write at (gate ∷ []) s ≡ t = ap (λ (o : Option Story). story_or t o) (sym written ∙ told') in
+    (subst (λ (o : Option Story). AsListed o (members.calls d) (members.told d') (members.calls d')) told
+    (done.listed sure.going)) in
+    let written : members.told d' ≡ Some (with_write at (byte ∷ []) s) =
+    has_written s at (byte ∷ []) all.0 (members.told d') (members.calls d') logs listed in
+    let same : with_write at (byte ∷ []) s ≡ t = ap (λ (o : Option Story). story_or t o) (sym written ∙ told') in
+    ap (λ (u : Story). image_of choice u) (sym same) ∙ one_byte_left choice s at byte (settled s told) (inside s told)
+
+-- where it is a gate, its byte decides
+pub by_byte : (before after : Option Story) (at gate : ℕ) (means : ℕ → Bool) (changed : List ℕ → SpoolFile) →
+    ((s : Story) → before ≡ Some s → means (slice_index s.now.bytes at) ≡ false) → means gate ≡ true →
+    ((s : Story) → before ≡ Some s → (other : ℕ) →
+    StandsFor (with_part s.now.bytes at (other ∷ []))
+    (file_left (means other) (changed s.now.bytes) (file_in s.now.bytes))) →
+    LeavesByte before after at gate → LeavesByGate before after means changed
+by_byte before after at gate means changed was is stands left s t told told' choice =
     let old = slice_index s.now.bytes at in
-    let image : image_of choice t ≡ with_part s.now.bytes at (chosen_byte choice old gate ∷ []) =
-    ap (λ (u : Story). image_of choice u) (sym same) ∙ one_byte_left choice s at gate (settled s told) (inside s told) in
-    subst (λ (i : List ℕ). StandsFor i (file_left (gate_counts choice means) (changed s.now.bytes) (file_in s.now.bytes))) (sym image)
-    (subst (λ (b : Bool). StandsFor (with_part s.now.bytes at (chosen_byte choice old gate ∷ [])) (file_left b (changed s.now.bytes) (file_in s.now.bytes)))
+    subst (λ (i : List ℕ). StandsFor i
+    (file_left (gate_counts choice means) (changed s.now.bytes) (file_in s.now.bytes)))
+    (sym (left s t told told' choice))
+    (subst (λ (b : Bool). StandsFor (with_part s.now.bytes at (chosen_byte choice old gate ∷ []))
+    (file_left b (changed s.now.bytes) (file_in s.now.bytes)))
     (left_by means choice old gate (was s told) is) (stands s told (chosen_byte choice old gate)))
 
 -- the gate of the next message's slot
@@ -90,19 +106,25 @@ module _ (written : HasWrittenLaw) (left : ChosenLaw) {D : Type 0} (members : di
       r = is.spool.rests s told
 
       shut : is_open (slot_in s.now.bytes slot) ≡ false
-      shut = next_closed s k r is.spool.some (omega (arith, is.free, is.spool.even))
+      shut = (is.parts s told).closed
 
       by_gate : (gate : ℕ) (b : Bool) → (gate == 90) ≡ b →
-          StandsFor (with_part s.now.bytes (slot_place slot) (gate ∷ [])) (file_left b (sealed_in slot s.now.bytes) (file_in s.now.bytes))
+          StandsFor (with_part s.now.bytes (slot_place slot) (gate ∷ []))
+          (file_left b (sealed_in slot s.now.bytes) (file_in s.now.bytes))
       by_gate gate true test =
-          open_more s.now.bytes k.slots k.first k.next r.sound r.inside r.slots_are r.chain slot below gate shut test (is.parts s told).fields (is.parts s told).number
-      by_gate gate false test = shut_same s.now.bytes k.slots k.first k.next r.sound r.inside r.slots_are r.chain slot below gate shut test
+          open_more s.now.bytes k.slots k.first k.next r.sound r.inside r.slots_are r.low r.chain slot below gate shut
+          test (is.parts s told).fields (is.parts s told).number
+      by_gate gate false test =
+          shut_same s.now.bytes k.slots k.first k.next r.sound r.inside r.slots_are r.low r.chain slot below gate shut
+          test
 
     pub seal_loss : HasSettled members d d' (slot_place slot) (90 ∷ []) Failed → IsSure (members.health d) 2 1 →
-        LeavesByGate (members.told d) (members.told d') (λ gate. gate == 90) (sealed_in slot)
+        LeavesByGate (members.told d) (members.told d') opens (sealed_in slot)
     seal_loss done sure =
-        gate_left written left members d d' (slot_place slot) 90 (λ gate. gate == 90) (sealed_in slot) called (λ s told. (r s told).settled)
-        (λ s told. omega (arith, (r s told).inside, below)) shut refl (λ s told other. by_gate s told other (other == 90) refl) done sure
+        by_byte (members.told d) (members.told d') (slot_place slot) 90 opens (sealed_in slot) shut refl
+        (λ s told other. by_gate s told other (opens other) refl)
+        (byte_left written left members d d' (slot_place slot) 90 called (λ s told. (r s told).settled)
+        (λ s told. omega (arith, (r s told).inside, below)) done sure)
 
   -- and that of the oldest message's
   module _ (is : IsSpool members (in_hand d k)) (one : 0 < k.len) where
@@ -113,19 +135,28 @@ module _ (written : HasWrittenLaw) (left : ChosenLaw) {D : Type 0} (members : di
       rests : Rests s k
       rests = is.rests s told
 
-      there : (oldest_slot < k.slots) × (is_open (slot_in s.now.bytes oldest_slot) ≡ true) × ((slot_in s.now.bytes oldest_slot).head.number ≡ k.first)
+      there : (oldest_slot < k.slots) × (stands_on (floor_in s.now.bytes) (slot_in s.now.bytes oldest_slot) ≡ true)
+          × ((slot_in s.now.bytes oldest_slot).head.number ≡ k.first)
       there = first_there s k rests is.some one
 
+      opened : is_open (slot_in s.now.bytes oldest_slot) ≡ true
+      opened = stands_open (floor_in s.now.bytes) (slot_in s.now.bytes oldest_slot) there.1
+
       drop_by_gate : (gate : ℕ) (b : Bool) → (gate == 90) ≡ b →
-          StandsFor (with_part s.now.bytes (slot_place oldest_slot) (gate ∷ [])) (file_left (not b) (dropped_in s.now.bytes) (file_in s.now.bytes))
+          StandsFor (with_part s.now.bytes (slot_place oldest_slot) (gate ∷ []))
+          (file_left (not b) (dropped_in s.now.bytes) (file_in s.now.bytes))
       drop_by_gate gate true test =
-          still_same s.now.bytes k.slots k.first k.next rests.sound rests.inside rests.slots_are rests.chain oldest_slot there.0 gate there.1 there.2 test
+          still_same s.now.bytes k.slots k.first k.next rests.sound rests.inside rests.slots_are rests.low rests.chain
+          oldest_slot there.0 gate opened test
       drop_by_gate gate false test =
-          close_less s.now.bytes k.slots k.first k.next rests.sound rests.inside rests.slots_are rests.chain oldest_slot there.0 gate there.1 there.2 test
+          close_less s.now.bytes k.slots k.first k.next rests.sound rests.inside rests.slots_are rests.low rests.chain
+          oldest_slot there.0 gate there.1 there.2 test
 
     pub drop_loss : HasSettled members d d' (slot_place oldest_slot) (0 ∷ []) Failed → IsSure (members.health d) 2 1 →
-        LeavesByGate (members.told d) (members.told d') (λ gate. not (gate == 90)) dropped_in
+        LeavesByGate (members.told d) (members.told d') closes dropped_in
     drop_loss done sure =
-        gate_left written left members d d' (slot_place oldest_slot) 0 (λ gate. not (gate == 90)) dropped_in called (λ s told. (rests s told).settled)
-        (λ s told. omega (arith, (rests s told).inside, (there s told).0)) (λ s told. ap not (there s told).1) refl
-        (λ s told other. drop_by_gate s told other (other == 90) refl) done sure
+        by_byte (members.told d) (members.told d') (slot_place oldest_slot) 0 closes dropped_in
+        (λ s told. ap not (opened s told)) refl
+        (λ s told other. drop_by_gate s told other (opens other) refl)
+        (byte_left written left members d d' (slot_place oldest_slot) 0 called (λ s told. (rests s told).settled)
+        (λ s told. omega (arith, (rests s told).inside, (there s told).0)) done sure)

@@ -1,77 +1,124 @@
 -- What the bytes stand for where one slot of a sound file is written.
-use Rattle.std.proofs.Common.{◌≡◌, ℕ, ◌+◌, ◌%◌, ◌<◌, ◌≤◌, ◌⊎◌, ◌==◌, Bool, true, false, List, [], ◌∷◌, ◌++◌, length, drop, take, None, refl, sym, ap, subst, ◌∙◌, arith, inl, inr}
+use Rattle.std.proofs.Common.{◌≡◌, ℕ, ◌+◌, ◌%◌, ◌<◌, ◌≤◌, ◌⊎◌, ◌==◌, ◌&&◌, nat_le, Bool, true, false, List, [], ◌∷◌}
+use Rattle.std.proofs.Common.{◌++◌, length, drop, None, refl, sym, ap, subst, ◌∙◌, arith, inl, inr}
 use Rattle.std.proofs.Math.ListN.{set}
 use Rattle.std.proofs.lemmas.Bool.{cases_eq}
 use Rattle.std.proofs.lemmas.Bool.Decides.{nat_tests}
 use Rattle.disk_base.specs.Story.{with_part}
 use Rattle.disk_base.proofs.Marks.{length-part}
 use Rattle.gate_cell.specs.Cell.{Cell, cell_in}
-use Rattle.spool_slots.specs.Area.{or_else}
-use Rattle.spool_slots.specs.Changes.{dropped_in, sealed_in, shut_for}
-use Rattle.spool_slots.specs.File.{SpoolFile, StandsFor, area_break, file_in, gates_below, list_below, slot_message, slot_stands, slots_in, spool_break}
-use Rattle.spool_slots.specs.Front.{front_break, front_in, front_size, mark_cell, slots_of}
+use Rattle.spool_slots.specs.Area.{first_of, or_else}
+use Rattle.spool_slots.specs.Changes.{dropped_in, sealed_in, shut_in}
+use Rattle.spool_slots.specs.File.{SpoolFile, StandsFor, area_break, file_in, floor_in, gates_below, list_below}
+use Rattle.spool_slots.specs.File.{slot_message, slot_stands, slots_in, spool_break}
+use Rattle.spool_slots.specs.Front.{floor_cell, front_break, front_in, front_size, mark_cell, slots_of}
 use Rattle.spool_slots.specs.Run.{IsChainFrom, width}
 use Rattle.spool_slots.specs.Slot.{Message, Slot, head_break, is_open, message_of, slot_break, slot_in, slot_place}
+use Rattle.spool_slots.specs.Slot.{stands_on}
 use Rattle.spool_slots.proofs.Areas.{IsSameAt}
 use Rattle.spool_slots.proofs.Changes.{closes, closes_kept, opens, opens_kept, same_kept, same_list}
 use Rattle.spool_slots.proofs.Firsts.{both_none}
 use Rattle.spool_slots.proofs.Fronts.{front_cell}
-use Rattle.spool_slots.proofs.Gapless.{IsWhole, closed_none, good_is, good_none, good_width, kept_sound, open_good, sound_of}
+use Rattle.spool_slots.proofs.Gapless.{IsWhole, absent_none, good_is, good_none, good_width, kept_sound, sound_of}
+use Rattle.spool_slots.proofs.Gapless.{stands_good}
 use Rattle.spool_slots.proofs.Gates.{one_gate, same_gates}
-use Rattle.spool_slots.proofs.Runs.{IsKept}
+use Rattle.spool_slots.proofs.Runs.{IsKept, chain_up}
 use Rattle.spool_slots.proofs.Written.{front_beside, gate_stays, gate_written, others_stay}
 
-abbrev made_file : ℕ → List Bool → Cell → List Message → SpoolFile
-made_file slots gates mark list = record { slots = slots; gates = gates; mark = mark; list = list }
+-- a file of these parts
+abbrev pub made_file : ℕ → List Bool → (mark floor : Cell) → List Message → SpoolFile
+made_file slots gates mark floor list = record { slots = slots; gates = gates; mark = mark; floor = floor; list = list }
 
--- the same front has the same mark
-same_mark : (bytes image : List ℕ) → front_in image ≡ front_in bytes → cell_in bytes mark_cell ≡ cell_in image mark_cell
-same_mark bytes image same =
-    front_cell mark_cell front_size bytes (omega arith)
-    ∙ ap (λ (f : List ℕ). cell_in f mark_cell) (sym same)
-    ∙ sym (front_cell mark_cell front_size image (omega arith))
+-- the same front has the same cells
+same_cell : (bytes image : List ℕ) (at : ℕ) → at + 17 ≤ front_size → front_in image ≡ front_in bytes →
+    cell_in bytes at ≡ cell_in image at
+same_cell bytes image at within same =
+    front_cell at front_size bytes within
+    ∙ ap (λ (f : List ℕ). cell_in f at) (sym same)
+    ∙ sym (front_cell at front_size image within)
 
 -- bytes with the same front and sound slots
 pub stands_now : (bytes image : List ℕ) (slots : ℕ) (gates : List Bool) (list : List Message) →
     front_in image ≡ front_in bytes → length image ≡ length bytes →
-    front_break (front_in bytes) (length bytes) ≡ None → slots ≡ slots_in bytes → area_break (slot_in image) slots ≡ None →
-    gates_below (slot_in image) slots ≡ gates → list_below (slot_in image) slots ≡ list →
-    StandsFor image (made_file (slots_in bytes) gates (cell_in bytes mark_cell) list)
+    front_break (front_in bytes) (length bytes) ≡ None → slots ≡ slots_in bytes →
+    area_break (floor_in bytes) (slot_in image) slots ≡ None →
+    gates_below (slot_in image) slots ≡ gates → list_below (floor_in bytes) (slot_in image) slots ≡ list →
+    StandsFor image (made_file (slots_in bytes) gates (cell_in bytes mark_cell) (cell_in bytes floor_cell) list)
 stands_now bytes image slots gates list same long front slots_are area gates_are is =
     let slots_now : slots ≡ slots_in image = slots_are ∙ ap slots_of (sym same) in
+    let floor_now = same_cell bytes image floor_cell (omega arith) same in
+    let there : (slots_in bytes ≡ slots_in image) × (gates ≡ (file_in image).gates) × (list ≡ (file_in image).list) = (
+      sym slots_are ∙ slots_now,
+      sym gates_are ∙ ap (λ (n : ℕ). gates_below (slot_in image) n) slots_now,
+      sym is ∙ ap (λ (c : Cell). list_below c.value (slot_in image) slots) floor_now
+          ∙ ap (λ (n : ℕ). list_below (floor_in image) (slot_in image) n) slots_now,
+    ) in
     record {
       sound =
-          ap (λ o. or_else o (area_break (slot_in image) (slots_in image)))
-          (ap (λ (f : List ℕ). front_break f (length image)) same ∙ ap (λ (n : ℕ). front_break (front_in bytes) n) long ∙ front)
-          ∙ ap (λ (n : ℕ). area_break (slot_in image) n) (sym slots_now) ∙ area;
+          ap (λ o. or_else o (area_break (floor_in image) (slot_in image) (slots_in image)))
+          (ap (λ (f : List ℕ). front_break f (length image)) same ∙ ap (λ (n : ℕ). front_break (front_in bytes) n) long
+          ∙ front)
+          ∙ ap (λ (n : ℕ). area_break (floor_in image) (slot_in image) n) (sym slots_now)
+          ∙ ap (λ (c : Cell). area_break c.value (slot_in image) slots) (sym floor_now) ∙ area;
       is =
-          ap (λ (f : List ℕ). made_file (slots_of f) gates (cell_in bytes mark_cell) list) (sym same)
-          ∙ ap (λ (c : Cell). made_file (slots_in image) gates c list) (same_mark bytes image same)
-          ∙ ap (λ (g : List Bool). made_file (slots_in image) g (cell_in image mark_cell) list)
-          (sym gates_are ∙ ap (λ (n : ℕ). gates_below (slot_in image) n) slots_now)
-          ∙ ap (λ (l : List Message). made_file (slots_in image) (file_in image).gates (cell_in image mark_cell) l)
-          (sym is ∙ ap (λ (n : ℕ). list_below (slot_in image) n) slots_now);
+          ap (λ (n : ℕ). made_file n gates (cell_in bytes mark_cell) (cell_in bytes floor_cell) list) there.0
+          ∙ ap (λ (g : List Bool). made_file (slots_in image) g (cell_in bytes mark_cell) (cell_in bytes floor_cell)
+          list) there.1
+          ∙ ap (λ (c : Cell). made_file (slots_in image) (file_in image).gates c (cell_in bytes floor_cell) list)
+          (same_cell bytes image mark_cell (omega arith) same)
+          ∙ ap (λ (c : Cell). made_file (slots_in image) (file_in image).gates (cell_in image mark_cell) c list)
+          floor_now
+          ∙ ap (λ (l : List Message). made_file (slots_in image) (file_in image).gates (cell_in image mark_cell)
+          (cell_in image floor_cell) l) there.2;
     }
 
--- a slot that is the same holds the same
-pub slot_same : (f g : ℕ → Slot) (k : ℕ) → g k ≡ f k → IsSameAt (slot_stands f) (slot_stands g) (slot_message f) (slot_message g) k
-slot_same f g k same = record { stays = ap is_open same; same = λ there. ap message_of same }
+open_if : (a b : Bool) → (a && b) ≡ true → a ≡ true
+open_if true b is = refl
+open_if false b is = is
 
--- one that is closed both times holds nothing
-pub slot_closed : (f g : ℕ → Slot) (k : ℕ) → is_open (f k) ≡ false → is_open (g k) ≡ false → IsSameAt (slot_stands f) (slot_stands g) (slot_message f) (slot_message g) k
-slot_closed f g k was now = record { stays = now ∙ sym was; same = λ there. let opened : is_open (f k) ≡ true = there in absurd (grind (arith, opened, was)) }
+-- a slot that stands is open, and a closed one doesn't
+pub stands_open : (floor : ℕ) (slot : Slot) → stands_on floor slot ≡ true → is_open slot ≡ true
+stands_open floor slot is = open_if (is_open slot) (nat_le floor slot.head.number) is
+
+pub closed_absent : (floor : ℕ) (slot : Slot) → is_open slot ≡ false → stands_on floor slot ≡ false
+closed_absent floor slot is = ap (λ (b : Bool). b && nat_le floor slot.head.number) is
+
+-- slots before and now, above a floor
+module _ (floor : ℕ) (f g : ℕ → Slot) (k : ℕ) where
+  abbrev IsSameSlot : Type 0
+  IsSameSlot = IsSameAt (slot_stands floor f) (slot_stands floor g) (slot_message f) (slot_message g) k
+
+  -- one that is the same holds the same
+  pub slot_same : g k ≡ f k → IsSameSlot
+  slot_same same = record { stays = ap (stands_on floor) same; same = λ there. ap message_of same }
+
+  -- one that doesn't stand both times holds nothing
+  pub slot_absent : stands_on floor (f k) ≡ false → stands_on floor (g k) ≡ false → IsSameSlot
+  slot_absent was now = record {
+    stays = now ∙ sym was;
+    same = λ there. let stood : stands_on floor (f k) ≡ true = there in absurd (grind (arith, stood, was));
+  }
 
 -- a sound file in which one slot is written
-module _ (bytes : List ℕ) (slots first next : ℕ) (sound : spool_break bytes ≡ None) (inside : slot_place slots ≤ length bytes)
-    (slots_are : slots ≡ slots_in bytes) (chain : IsChainFrom first next (file_in bytes).list) where
+module _ (bytes : List ℕ) (slots first next : ℕ) (sound : spool_break bytes ≡ None)
+    (inside : slot_place slots ≤ length bytes)
+    (slots_are : slots ≡ slots_in bytes) (low : floor_in bytes ≤ first)
+    (chain : IsChainFrom first next (file_in bytes).list) where
   abbrev old : ℕ → Slot
   old = slot_in bytes
 
-  both : (front_break (front_in bytes) (length bytes) ≡ None) × (area_break old (slots_in bytes) ≡ None)
-  both = both_none (front_break (front_in bytes) (length bytes)) (area_break old (slots_in bytes)) sound
+  abbrev floor : ℕ
+  floor = floor_in bytes
 
-  pub listed : (file_in bytes).list ≡ list_below old slots
-  listed = ap (λ (n : ℕ). list_below old n) (sym slots_are)
+  both : (front_break (front_in bytes) (length bytes) ≡ None) × (area_break floor old (slots_in bytes) ≡ None)
+  both = both_none (front_break (front_in bytes) (length bytes)) (area_break floor old (slots_in bytes)) sound
+
+  pub listed : (file_in bytes).list ≡ list_below floor old slots
+  listed = ap (λ (n : ℕ). list_below floor old n) (sym slots_are)
+
+  -- the next message stands, too
+  next_low : floor ≤ next
+  next_low = omega (arith, low, chain_up first next (file_in bytes).list chain)
 
   gated : (file_in bytes).gates ≡ gates_below old slots
   gated = ap (λ (n : ℕ). gates_below old n) (sym slots_are)
@@ -80,12 +127,12 @@ module _ (bytes : List ℕ) (slots first next : ℕ) (sound : spool_break bytes 
   slot_is : (number j : ℕ) → number % slots ≡ j → j ≡ number % slots_in bytes
   slot_is number j place = sym place ∙ ap (λ (n : ℕ). number % n) slots_are
 
-  fields : (k : ℕ) → k < slots → slot_break slots k (old k) ≡ None
-  fields = (sound_of old slots (subst (λ n. area_break old n ≡ None) (sym slots_are) both.1)).fields
+  fields : (k : ℕ) → k < slots → slot_break floor slots k (old k) ≡ None
+  fields = (sound_of floor old slots (subst (λ n. area_break floor old n ≡ None) (sym slots_are) both.1)).fields
 
-  pub kept : IsKept (slot_stands old) (slot_message old) slots first next
+  pub kept : IsKept (slot_stands floor old) (slot_message old) slots first next
   kept = record {
-    places = λ k below there. (open_good slots k (old k) (fields k below) there).place;
+    places = λ k below there. (stands_good floor slots k (old k) (fields k below) there).place;
     chain = subst (IsChainFrom first next) listed chain;
   }
 
@@ -93,7 +140,8 @@ module _ (bytes : List ℕ) (slots first next : ℕ) (sound : spool_break bytes 
   fits j at p long is below short = omega (arith, is, below, short, inside)
 
   -- a part was written into slot j
-  module _ (j at p : ℕ) (part : List ℕ) (at_is : at ≡ slot_place j + p) (below : j < slots) (short : p + length part ≤ 4096) where
+  module _ (j at p : ℕ) (part : List ℕ) (at_is : at ≡ slot_place j + p) (below : j < slots)
+      (short : p + length part ≤ 4096) where
     abbrev image : List ℕ
     image = with_part bytes at part
 
@@ -104,8 +152,8 @@ module _ (bytes : List ℕ) (slots first next : ℕ) (sound : spool_break bytes 
     beside k less other = others_stay bytes part j k at p at_is within short other
 
     pub same_beside : (k : ℕ) → k < slots → (k ≡ j → ⊥) →
-        IsSameAt (slot_stands old) (slot_stands (slot_in image)) (slot_message old) (slot_message (slot_in image)) k
-    same_beside k less other = slot_same old (slot_in image) k (beside k less other)
+        IsSameSlot floor old (slot_in image) k
+    same_beside k less other = slot_same floor old (slot_in image) k (beside k less other)
 
     -- which slots are open
     open_beside : (k : ℕ) → k < slots → (k ≡ j → ⊥) → is_open (slot_in image k) ≡ is_open (old k)
@@ -127,51 +175,60 @@ module _ (bytes : List ℕ) (slots first next : ℕ) (sound : spool_break bytes 
         ∙ ap (λ (gates : List Bool). set gates j b) (sym gated)
         ∙ ap (λ (i : ℕ). set (file_in bytes).gates i b) (slot_is number j place)
 
-    field_at : (k : ℕ) → (k ≡ j) ⊎ (k ≡ j → ⊥) → k < slots → slot_break slots j (slot_in image j) ≡ None → slot_break slots k (slot_in image k) ≡ None
-    field_at k (inl here) less good = subst (λ i. slot_break slots i (slot_in image i) ≡ None) (sym here) good
-    field_at k (inr other) less good = ap (λ s. slot_break slots k s) (beside k less other) ∙ fields k less
+    field_at : (k : ℕ) → (k ≡ j) ⊎ (k ≡ j → ⊥) → k < slots → slot_break floor slots j (slot_in image j) ≡ None →
+        slot_break floor slots k (slot_in image k) ≡ None
+    field_at k (inl here) less good = subst (λ i. slot_break floor slots i (slot_in image i) ≡ None) (sym here) good
+    field_at k (inr other) less good = ap (λ s. slot_break floor slots k s) (beside k less other) ∙ fields k less
 
     -- which passes the tests still
-    module _ (good : slot_break slots j (slot_in image j) ≡ None) where
-      pub whole : (first' next' : ℕ) → IsKept (slot_stands (slot_in image)) (slot_message (slot_in image)) slots first' next' →
-          IsWhole (slot_in image) slots first' next'
+    module _ (good : slot_break floor slots j (slot_in image j) ≡ None) where
+      pub whole : (first' next' : ℕ) →
+          IsKept (slot_stands floor (slot_in image)) (slot_message (slot_in image)) slots first' next' →
+          IsWhole floor (slot_in image) slots first' next'
       whole first' next' is = record { fields = λ k less. field_at k (cases_eq k j) less good; kept = is }
 
       pub stands : (first' next' : ℕ) (gates : List Bool) (list : List Message) →
-          IsKept (slot_stands (slot_in image)) (slot_message (slot_in image)) slots first' next' →
-          gates_below (slot_in image) slots ≡ gates → list_below (slot_in image) slots ≡ list →
-          StandsFor image (made_file (slots_in bytes) gates (cell_in bytes mark_cell) list)
+          IsKept (slot_stands floor (slot_in image)) (slot_message (slot_in image)) slots first' next' →
+          gates_below (slot_in image) slots ≡ gates → list_below floor (slot_in image) slots ≡ list →
+          StandsFor image (made_file (slots_in bytes) gates (cell_in bytes mark_cell) (cell_in bytes floor_cell) list)
       stands first' next' gates list is gates_are same =
           stands_now bytes image slots gates list (front_beside bytes part at within (omega (arith, at_is)))
           (length-part bytes part at within) both.0 slots_are
-          (kept_sound (slot_in image) slots first' next' (whole first' next' is)) gates_are same
+          (kept_sound floor (slot_in image) slots first' next' (whole first' next' is)) gates_are same
 
-    -- a closed slot that is so still
-    module _ (was : is_open (old j) ≡ false) (still : is_open (slot_in image j) ≡ false) where
-      same_at : (k : ℕ) → (k ≡ j) ⊎ (k ≡ j → ⊥) → k < slots →
-          IsSameAt (slot_stands old) (slot_stands (slot_in image)) (slot_message old) (slot_message (slot_in image)) k
-      same_at k (inl here) less = subst (λ i. IsSameAt (slot_stands old) (slot_stands (slot_in image)) (slot_message old) (slot_message (slot_in image)) i) (sym here)
-          (slot_closed old (slot_in image) j was still)
+    -- a slot that doesn't stand, and doesn't still
+    module _ (was : stands_on floor (old j) ≡ false) (still : stands_on floor (slot_in image j) ≡ false) where
+      same_at : (k : ℕ) → (k ≡ j) ⊎ (k ≡ j → ⊥) → k < slots → IsSameSlot floor old (slot_in image) k
+      same_at k (inl here) less =
+          subst (λ i. IsSameSlot floor old (slot_in image) i) (sym here)
+          (slot_absent floor old (slot_in image) j was still)
       same_at k (inr other) less = same_beside k less other
 
-      pub shut_kept : IsKept (slot_stands (slot_in image)) (slot_message (slot_in image)) slots first next
-      shut_kept = same_kept (slot_stands old) (slot_stands (slot_in image)) (slot_message old) (slot_message (slot_in image)) slots first next kept
+      shut_kept : IsKept (slot_stands floor (slot_in image)) (slot_message (slot_in image)) slots first next
+      shut_kept = same_kept (slot_stands floor old) (slot_stands floor (slot_in image)) (slot_message old)
+          (slot_message (slot_in image)) slots first next kept
           (λ k less. same_at k (cases_eq k j) less)
 
-      pub shut_stands : StandsFor image (file_in bytes)
-      shut_stands =
-          stands (closed_none slots j (slot_in image j) still) first next (file_in bytes).gates (file_in bytes).list
-          shut_kept
-          (gates_stay (still ∙ sym was))
-          (same_list (slot_stands old) (slot_stands (slot_in image)) (slot_message old) (slot_message (slot_in image)) slots first next kept
+      shut_stands : (gates : List Bool) → gates_below (slot_in image) slots ≡ gates →
+          StandsFor image (made_file (slots_in bytes) gates (cell_in bytes mark_cell) (cell_in bytes floor_cell)
+          (file_in bytes).list)
+      shut_stands gates gates_are =
+          stands (absent_none floor slots j (slot_in image j) still) first next gates (file_in bytes).list shut_kept
+          gates_are
+          (same_list (slot_stands floor old) (slot_stands floor (slot_in image)) (slot_message old)
+          (slot_message (slot_in image)) slots first next kept
           (λ k less. same_at k (cases_eq k j) less) ∙ sym listed)
 
   -- the parts of a closed slot
   pub parts_same : (j : ℕ) → j < slots → is_open (old j) ≡ false → (part : List ℕ) → 1 + length part ≤ 4096 →
       StandsFor (with_part bytes (slot_place j + 1) part) (file_in bytes)
   parts_same j below closed part short =
-      shut_stands j (slot_place j + 1) 1 part refl below short closed
-      (ap (λ (gate : ℕ). gate == 90) (gate_stays bytes part j (fits j (slot_place j + 1) 1 (length part) refl below short)) ∙ closed)
+      let same : is_open (slot_in (with_part bytes (slot_place j + 1) part) j) ≡ is_open (old j) =
+      ap (λ (gate : ℕ). gate == 90)
+      (gate_stays bytes part j (fits j (slot_place j + 1) 1 (length part) refl below short)) in
+      shut_stands j (slot_place j + 1) 1 part refl below short (closed_absent floor (old j) closed)
+      (closed_absent floor (slot_in (with_part bytes (slot_place j + 1) part) j) (same ∙ closed)) (file_in bytes).gates
+      (gates_stay j (slot_place j + 1) 1 part refl below short same)
 
   -- the gate of a slot
   module _ (j : ℕ) (below : j < slots) (gate : ℕ) where
@@ -197,37 +254,63 @@ module _ (bytes : List ℕ) (slots first next : ℕ) (sound : spool_break bytes 
     short = omega arith
 
     others : (k : ℕ) → k < slots → (k ≡ j → ⊥) →
-        IsSameAt (slot_stands old) (slot_stands (slot_in now)) (slot_message old) (slot_message (slot_in now)) k
+        IsSameSlot floor old (slot_in now) k
     others = same_beside j (slot_place j) 0 (gate ∷ []) at_is below short
+
+    -- which is closed then
+    absent_now : (gate == 90) ≡ false → stands_on floor (slot_in now j) ≡ false
+    absent_now shut = closed_absent floor (slot_in now j) (gate_is ∙ shut)
+
+    -- of a slot that doesn't stand
+    pub shut_stale : stands_on floor (old j) ≡ false → (number : ℕ) → number % slots ≡ j → (gate == 90) ≡ false →
+        StandsFor now (shut_in number bytes)
+    shut_stale absent number place shut =
+        shut_stands j (slot_place j) 0 (gate ∷ []) at_is below short absent (absent_now shut)
+        (shut_in number bytes).gates
+        (gates_set j (slot_place j) 0 (gate ∷ []) at_is below short false number (gate_is ∙ shut) place)
 
     -- of a closed one
     module _ (closed : is_open (old j) ≡ false) where
       pub shut_same : (gate == 90) ≡ false → StandsFor now (file_in bytes)
-      shut_same shut = shut_stands j (slot_place j) 0 (gate ∷ []) at_is below short closed (gate_is ∙ shut)
+      shut_same shut =
+          shut_stands j (slot_place j) 0 (gate ∷ []) at_is below short (closed_absent floor (old j) closed)
+          (absent_now shut) (file_in bytes).gates
+          (gates_stay j (slot_place j) 0 (gate ∷ []) at_is below short (gate_is ∙ shut ∙ sym closed))
 
-      module _ (opened : (gate == 90) ≡ true) (good : head_break slots j (old j).head ≡ None) (number : (old j).head.number ≡ next) where
+      module _ (opened : (gate == 90) ≡ true) (good : head_break slots j (old j).head ≡ None)
+          (number : (old j).head.number ≡ next) where
         number_now : (slot_in now j).head.number ≡ next
         number_now = ap (λ (s : Slot). s.head.number) slot_now ∙ number
 
         place_now : (slot_in now j).head.number % slots ≡ j
         place_now = ap (λ (s : Slot). s.head.number % slots) slot_now ∙ (good_is slots j (old j).head good).place
 
-        good_now : slot_break slots j (slot_in now j) ≡ None
-        good_now = good_none slots j (slot_in now j) (ap (λ (s : Slot). head_break slots j s.head) slot_now ∙ good)
+        good_now : slot_break floor slots j (slot_in now j) ≡ None
+        good_now = good_none floor slots j (slot_in now j)
+            (ap (λ (s : Slot). head_break slots j s.head) slot_now ∙ good)
 
-        pub open_kept : IsKept (slot_stands (slot_in now)) (slot_message (slot_in now)) slots first (next + width (message_of (slot_in now j)))
-        open_kept = opens_kept (slot_stands old) (slot_stands (slot_in now)) (slot_message old) (slot_message (slot_in now)) slots first next kept j below others
-            closed (gate_is ∙ opened) place_now number_now
+        stood_now : stands_on floor (slot_in now j) ≡ true
+        stood_now =
+            let over : nat_le floor (old j).head.number ≡ true = grind (arith, nat_tests, number, next_low) in
+            ap (stands_on floor) slot_now ∙ ap (λ (b : Bool). b && nat_le floor (old j).head.number) opened ∙ over
 
-        open_list : list_below (slot_in now) slots ≡ (file_in bytes).list ++ message_of (old j) ∷ []
+        pub open_kept : IsKept (slot_stands floor (slot_in now)) (slot_message (slot_in now)) slots first
+            (next + width (message_of (slot_in now j)))
+        open_kept = opens_kept (slot_stands floor old) (slot_stands floor (slot_in now)) (slot_message old)
+            (slot_message (slot_in now)) slots first next kept j below others
+            (closed_absent floor (old j) closed) stood_now place_now number_now
+
+        open_list : list_below floor (slot_in now) slots ≡ (file_in bytes).list ++ message_of (old j) ∷ []
         open_list =
-            opens (slot_stands old) (slot_stands (slot_in now)) (slot_message old) (slot_message (slot_in now)) slots first next kept j below others
-            closed (gate_is ∙ opened) place_now number_now
-            ∙ ap (λ m. list_below old slots ++ m ∷ []) message_is
+            opens (slot_stands floor old) (slot_stands floor (slot_in now)) (slot_message old)
+            (slot_message (slot_in now)) slots first next kept j below others
+            (closed_absent floor (old j) closed) stood_now place_now number_now
+            ∙ ap (λ m. list_below floor old slots ++ m ∷ []) message_is
             ∙ ap (λ list. list ++ message_of (old j) ∷ []) (sym listed)
 
         pub open_more : StandsFor now (sealed_in j bytes)
-        open_more = stands j (slot_place j) 0 (gate ∷ []) at_is below short good_now first (next + width (message_of (slot_in now j)))
+        open_more = stands j (slot_place j) 0 (gate ∷ []) at_is below short good_now first
+            (next + width (message_of (slot_in now j)))
             (sealed_in j bytes).gates (sealed_in j bytes).list open_kept
             (gates_set j (slot_place j) 0 (gate ∷ []) at_is below short true (old j).head.number (gate_is ∙ opened)
             (good_is slots j (old j).head good).place) open_list
@@ -238,7 +321,7 @@ module _ (bytes : List ℕ) (slots first next : ℕ) (sound : spool_break bytes 
             (subst (IsChainFrom first (next + width (message_of (slot_in now j)))) open_list open_kept.chain)
 
     -- of an open one
-    module _ (opened : is_open (old j) ≡ true) (number : (old j).head.number ≡ first) where
+    module _ (opened : is_open (old j) ≡ true) where
       same_slot : (gate == 90) ≡ true → slot_in now j ≡ old j
       same_slot again =
           let gates : gate ≡ (old j).gate = grind (arith, nat_tests, again, opened) in
@@ -247,50 +330,63 @@ module _ (bytes : List ℕ) (slots first next : ℕ) (sound : spool_break bytes 
             record_with : ℕ → Slot
             record_with g = record { gate = g; head = (old j).head; area = (old j).area }
 
-      all_at : (gate == 90) ≡ true → (k : ℕ) → (k ≡ j) ⊎ (k ≡ j → ⊥) → k < slots →
-          IsSameAt (slot_stands old) (slot_stands (slot_in now)) (slot_message old) (slot_message (slot_in now)) k
-      all_at again k (inl here) less = subst (λ i. IsSameAt (slot_stands old) (slot_stands (slot_in now)) (slot_message old) (slot_message (slot_in now)) i) (sym here)
-          (slot_same old (slot_in now) j (same_slot again))
+      all_at : (gate == 90) ≡ true → (k : ℕ) → (k ≡ j) ⊎ (k ≡ j → ⊥) → k < slots → IsSameSlot floor old (slot_in now) k
+      all_at again k (inl here) less =
+          subst (λ i. IsSameSlot floor old (slot_in now) i) (sym here)
+          (slot_same floor old (slot_in now) j (same_slot again))
       all_at again k (inr other) less = others k less other
 
       pub still_same : (gate == 90) ≡ true → StandsFor now (file_in bytes)
       still_same again =
-          stands j (slot_place j) 0 (gate ∷ []) at_is below short (ap (λ s. slot_break slots j s) (same_slot again) ∙ fields j below) first next
+          stands j (slot_place j) 0 (gate ∷ []) at_is below short
+          (ap (λ s. slot_break floor slots j s) (same_slot again) ∙ fields j below) first next
           (file_in bytes).gates (file_in bytes).list
-          (same_kept (slot_stands old) (slot_stands (slot_in now)) (slot_message old) (slot_message (slot_in now)) slots first next kept
+          (same_kept (slot_stands floor old) (slot_stands floor (slot_in now)) (slot_message old)
+          (slot_message (slot_in now)) slots first next kept
           (λ k less. all_at again k (cases_eq k j) less))
           (gates_stay j (slot_place j) 0 (gate ∷ []) at_is below short (ap is_open (same_slot again)))
-          (same_list (slot_stands old) (slot_stands (slot_in now)) (slot_message old) (slot_message (slot_in now)) slots first next kept
+          (same_list (slot_stands floor old) (slot_stands floor (slot_in now)) (slot_message old)
+          (slot_message (slot_in now)) slots first next kept
           (λ k less. all_at again k (cases_eq k j) less) ∙ sym listed)
 
-      close_kept : (gate == 90) ≡ false → IsKept (slot_stands (slot_in now)) (slot_message (slot_in now)) slots (first + width (message_of (old j))) next
-      close_kept shut = closes_kept (slot_stands old) (slot_stands (slot_in now)) (slot_message old) (slot_message (slot_in now)) slots first next kept j below others
-          opened (gate_is ∙ shut) number
+    -- of one that stands
+    module _ (stood : stands_on floor (old j) ≡ true) (number : (old j).head.number ≡ first) where
+      close_kept : (gate == 90) ≡ false →
+          IsKept (slot_stands floor (slot_in now)) (slot_message (slot_in now)) slots
+          (first + width (message_of (old j))) next
+      close_kept shut = closes_kept (slot_stands floor old) (slot_stands floor (slot_in now)) (slot_message old)
+          (slot_message (slot_in now)) slots first next kept j below others
+          stood (absent_now shut) number
 
-      with_oldest : (gate == 90) ≡ false → (file_in bytes).list ≡ message_of (old j) ∷ list_below (slot_in now) slots
+      with_oldest : (gate == 90) ≡ false →
+          (file_in bytes).list ≡ message_of (old j) ∷ list_below floor (slot_in now) slots
       with_oldest shut =
           listed
-          ∙ closes (slot_stands old) (slot_stands (slot_in now)) (slot_message old) (slot_message (slot_in now)) slots
-          first next kept j below others opened (gate_is ∙ shut) number
+          ∙ closes (slot_stands floor old) (slot_stands floor (slot_in now)) (slot_message old)
+          (slot_message (slot_in now)) slots
+          first next kept j below others stood (absent_now shut) number
 
-      close_list : (gate == 90) ≡ false → list_below (slot_in now) slots ≡ drop 1 (file_in bytes).list
+      close_list : (gate == 90) ≡ false → list_below floor (slot_in now) slots ≡ drop 1 (file_in bytes).list
       close_list shut = sym (ap (λ (list : List Message). drop 1 list) (with_oldest shut))
 
       close_gates : (gate == 90) ≡ false → gates_below (slot_in now) slots ≡ (dropped_in bytes).gates
       close_gates shut =
           gates_set j (slot_place j) 0 (gate ∷ []) at_is below short false (old j).head.number (gate_is ∙ shut)
-          (kept.places j below opened)
-          ∙ sym (ap (λ (list : List Message). shut_for (slots_in bytes) (take 1 list) (file_in bytes).gates)
+          (kept.places j below stood)
+          ∙ sym (ap (λ (list : List Message). set (file_in bytes).gates (first_of floor list % slots_in bytes) false)
           (with_oldest shut))
 
       pub close_less : (gate == 90) ≡ false → StandsFor now (dropped_in bytes)
-      close_less shut = stands j (slot_place j) 0 (gate ∷ []) at_is below short (closed_none slots j (slot_in now j) (gate_is ∙ shut))
+      close_less shut = stands j (slot_place j) 0 (gate ∷ []) at_is below short
+          (absent_none floor slots j (slot_in now j) (absent_now shut))
           (first + width (message_of (old j))) next (dropped_in bytes).gates (dropped_in bytes).list (close_kept shut)
           (close_gates shut) (close_list shut)
 
-      pub close_chain : (gate == 90) ≡ false → IsChainFrom (first + width (message_of (old j))) next (dropped_in bytes).list
-      close_chain shut = subst (IsChainFrom (first + width (message_of (old j))) next) (close_list shut) (close_kept shut).chain
+      pub close_chain : (gate == 90) ≡ false →
+          IsChainFrom (first + width (message_of (old j))) next (dropped_in bytes).list
+      close_chain shut = subst (IsChainFrom (first + width (message_of (old j))) next) (close_list shut)
+          (close_kept shut).chain
 
-  -- the message of an open slot takes one slot
-  pub width_there : (j : ℕ) → j < slots → is_open (old j) ≡ true → width (message_of (old j)) ≡ 1
-  width_there j below opened = good_width slots j (old j) (open_good slots j (old j) (fields j below) opened)
+  -- the message of a slot that stands takes one slot
+  pub width_there : (j : ℕ) → j < slots → stands_on floor (old j) ≡ true → width (message_of (old j)) ≡ 1
+  width_there j below stood = good_width slots j (old j) (stands_good floor slots j (old j) (fields j below) stood)

@@ -1,5 +1,6 @@
 -- The parts of a message, written into a slot.
-use Rattle.std.proofs.Common.{◌≡◌, ℕ, ◌+◌, ◌^◌, ◌%◌, ◌<◌, ◌≤◌, List, length, take, drop, Some, None, Ok, refl, sym, ap, subst, ◌∙◌, arith}
+use Rattle.std.proofs.Common.{◌≡◌, ℕ, ◌+◌, ◌^◌, ◌%◌, ◌<◌, ◌≤◌, ◌==◌, false, List, length, take, drop, Some, None, refl}
+use Rattle.std.proofs.Common.{sym, ap, subst, ◌∙◌, arith}
 use Rattle.std.proofs.lemmas.Bool.Decides.{nat_tests}
 use Rattle.std.proofs.lemmas.List.{take_all, take-take}
 use Rattle.std.proofs.lemmas.Nat.{from_be_bytes-to_be_bytes_4, from_be_bytes-to_be_bytes_8, mod_below}
@@ -8,15 +9,15 @@ use Rattle.disk_base.specs.Story.{Story, bytes_at, with_part}
 use Rattle.disk_base.specs.declared.disk.Disk as disk
 use Rattle.disk_base.specs.declared.disk.DiskAnswer.{DiskAnswer}
 use Rattle.disk_base.specs.declared.disk.DiskAnswer.TheVariants.{Done}
-use Rattle.spool_slots.specs.Changes.{IsSame, HasSettled, HasStaged, Stages, parts_of}
+use Rattle.spool_slots.specs.Changes.{Ends, HasSettled, HoldsThrough, IsNext, IsSame, parts_of}
 use Rattle.spool_slots.specs.File.{file_in}
-use Rattle.spool_slots.specs.Slot.{Message, head_break, head_of, message_of, slot_in, slot_place}
+use Rattle.spool_slots.specs.Slot.{Message, head_break, head_of, is_open, message_of, slot_in, slot_place}
 use Rattle.spool_slots.specs.Spool.{HasParts, IsSpool, IsStagedSpool, Rests, in_hand}
 use Rattle.spool_slots.specs.declared.recovery.Known.{Known}
 use Rattle.spool_slots.specs.declared.slot.SlotHead.{SlotHead}
-use Rattle.spool_slots.proofs.Lasting.{after_settle, lasts, parts_leave, rests_now}
+use Rattle.spool_slots.proofs.Lasting.{after_settle, done_at, lasts, parts_leave, rests_now}
 use Rattle.spool_slots.proofs.Gapless.{is_good}
-use Rattle.spool_slots.proofs.Written.{parts_there}
+use Rattle.spool_slots.proofs.Written.{gate_stays, parts_there}
 
 abbrev head_with : ℕ → ℕ → ℕ → ℕ → SlotHead
 head_with number stream function len = record { number = number; stream = stream; function = function; len = len }
@@ -33,7 +34,7 @@ head_parts n s f b number low short =
     ∙ ap (λ (x : ℕ). head_with n x f len) h
     ∙ ap (λ (x : ℕ). head_with n s f x) (from_be_bytes-to_be_bytes_4 (length b) short)
 
-abbrev message_with : ℕ → ℕ → ℕ → List ℕ → Message
+abbrev pub message_with : ℕ → ℕ → ℕ → List ℕ → Message
 message_with number stream function body = record { number = number; stream = stream; function = function; body = body }
 
 module _ (bytes : List ℕ) (j n s f : ℕ) (b : List ℕ) (number : n < 2 ^ 64) (low : s < 128) (short : length b ≤ 4081)
@@ -63,9 +64,11 @@ module _ (bytes : List ℕ) (j n s f : ℕ) (b : List ℕ) (number : n < 2 ^ 64)
       ap (λ (h : SlotHead). message_with h.number h.stream h.function (take h.len (slot_in now j).area)) head_now
       ∙ ap (λ (x : List ℕ). message_with n s f x) body_now
 
--- the parts of the next message were written
-module _ {D : Type 0} (members : disk.Ghosts D) (d d' : D) (k : Known) (is : IsSpool members (in_hand d k)) (s f : ℕ) (b : List ℕ)
-    (free : k.len < k.slots) (short : length b ≤ 4081) (low : s < 128) (odd : f % 2 ≡ 1) (number : k.next < 2 ^ 63) where
+-- the parts of the next message were written, where its slot is closed
+module _ {D : Type 0} (members : disk.Ghosts D) (d d' : D) (k : Known) (is : IsSpool members (in_hand d k)) (s f : ℕ)
+    (b : List ℕ)
+    (free : k.len < k.slots) (short : length b ≤ 4081) (low : s < 128) (odd : f % 2 ≡ 1) (number : k.next < 2 ^ 63)
+    (closed : (t : Story) → members.told d ≡ Some t → is_open (slot_in t.now.bytes (k.next % k.slots)) ≡ false) where
   abbrev slot : ℕ
   slot = k.next % k.slots
 
@@ -81,33 +84,36 @@ module _ {D : Type 0} (members : disk.Ghosts D) (d d' : D) (k : Known) (is : IsS
   same_now : (t : Story) → members.told d ≡ Some t → (other : List ℕ) → length other ≡ length part →
       IsSame t.now.bytes (with_part t.now.bytes (slot_place slot + 1) other)
   same_now t told other long =
-      parts_leave t k (is.rests t told) is.some (omega (arith, free, is.even)) other (omega (arith, long, length-parts k.next s f b, short))
+      parts_leave t k (is.rests t told) is.some (closed t told) other
+      (omega (arith, long, length-parts k.next s f b, short))
 
-  pub stage_does : (answer : DiskAnswer) → HasSettled members d d' (slot_place slot + 1) part answer → HasStaged members (in_hand d k) s f b d' answer
-  stage_does answer done = record {
-    short = short;
-    free = free;
-    number = number;
-    images = lasts (members.told d) (members.told d') (slot_place slot + 1) part answer IsSame
-        (λ t told. (is.rests t told).settled) within same_now done.told;
-    disk = done;
-  }
+  pub parts_images : (answer : DiskAnswer) → HasSettled members d d' (slot_place slot + 1) part answer →
+      HoldsThrough (members.told d) (members.told d') IsSame
+  parts_images answer done = lasts (members.told d) (members.told d') (slot_place slot + 1) part answer IsSame
+      (λ t told. (is.rests t told).settled) within same_now done.told
 
   module _ (done : HasSettled members d d' (slot_place slot + 1) part Done) where
+    pub parts_end : (t u : Story) → members.told d ≡ Some t → members.told d' ≡ Some u → Ends u (file_in t.now.bytes)
+    parts_end t u told told' = subst (λ w. Ends w (file_in t.now.bytes))
+        (done_at (members.told d) (members.told d') (slot_place slot + 1) part t u done.told told told')
+        (record { settled = refl; stands = same_now t told part refl })
+
     rests : (t : Story) → members.told d' ≡ Some t → Rests t k
     rests = after_settle (members.told d) (members.told d') (slot_place slot + 1) part (λ t. Rests t k)
         (λ t told. let r = is.rests t told in
         rests_now t (slot_place slot + 1) part (file_in t.now.bytes) k (within t told) r.inside
-        (same_now t told part refl) r.slots_are r.mark_is r.chain r.count) done.told
+        (same_now t told part refl) r.slots_are r.mark_is r.low r.chain r.count) done.told
 
-    fields : (t : Story) → members.told d ≡ Some t → head_break k.slots slot (slot_in (with_part t.now.bytes (slot_place slot + 1) part) slot).head ≡ None
+    fields : (t : Story) → members.told d ≡ Some t →
+        head_break k.slots slot (slot_in (with_part t.now.bytes (slot_place slot + 1) part) slot).head ≡ None
     fields t told =
-        ap (λ (h : SlotHead). head_break k.slots slot h) (head_now t.now.bytes slot k.next s f b (omega (arith, number)) low short (within t told))
+        ap (λ (h : SlotHead). head_break k.slots slot h)
+        (head_now t.now.bytes slot k.next s f b (omega (arith, number)) low short (within t told))
         ∙ is_good k.slots slot (head_with k.next s f (length b))
         (record { len = short; place = refl; number = number; function = grind (arith, nat_tests, odd) })
 
-    pub stage_spool : IsStagedSpool members (in_hand d' k)
-    stage_spool = record {
+    pub staged_spool : IsStagedSpool members (in_hand d' k)
+    staged_spool = record {
       spool = record {
         some = is.some;
         most = is.most;
@@ -120,19 +126,18 @@ module _ {D : Type 0} (members : disk.Ghosts D) (d d' : D) (k : Known) (is : IsS
       };
       free = free;
       number = number;
-      parts = after_settle (members.told d) (members.told d') (slot_place slot + 1) part (λ t. HasParts t k.slots k.next)
+      parts = after_settle (members.told d) (members.told d') (slot_place slot + 1) part
+          (λ t. HasParts t k.slots k.next)
           (λ t told. record {
+            closed = ap (λ (gate : ℕ). gate == 90) (gate_stays t.now.bytes part slot (within t told)) ∙ closed t told;
             fields = fields t told;
             number = ap (λ (h : SlotHead). h.number)
                 (head_now t.now.bytes slot k.next s f b (omega (arith, number)) low short (within t told));
           }) done.told;
     }
 
-    pub stages : Stages members (in_hand d k) s f b (Ok (in_hand d' k))
-    stages = (
-      stage_does Done done,
-      refl,
-      after_settle (members.told d) (members.told d') (slot_place slot + 1) part
-          (λ t. message_of (slot_in t.now.bytes slot) ≡ message_with k.next s f b)
-          (λ t told. message_now t.now.bytes slot k.next s f b (omega (arith, number)) low short (within t told)) done.told,
-    )
+    pub staged_message : IsNext members (in_hand d' k) (message_with k.next s f b)
+    staged_message = after_settle (members.told d) (members.told d') (slot_place slot + 1) part
+        (λ t. message_of (slot_in t.now.bytes slot) ≡ message_with k.next s f b)
+        (λ t told. message_now t.now.bytes slot k.next s f b (omega (arith, number)) low short (within t told))
+        done.told

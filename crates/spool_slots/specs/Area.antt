@@ -28,7 +28,7 @@ abbrev pub messages_below : (ℕ → Bool) → (ℕ → Message) → ℕ → Lis
 messages_below stands message zero = []
 messages_below stands message (suc k) = put_if (stands k) (message k) (messages_below stands message k)
 
--- the number of the first message
-abbrev pub first_of : List Message → ℕ
-first_of [] = 0
-first_of (message ∷ list) = message.number
+-- the number of the first message; where there is none, the floor
+abbrev pub first_of : ℕ → List Message → ℕ
+first_of floor [] = floor
+first_of floor (message ∷ list) = message.number

@@ -1,5 +1,6 @@
 -- What making a spool file does (this profile).
-use Rattle.std.specs.Prelude.{◌≡◌, ◌⊎◌, ℕ, ◌+◌, ◌<◌, ◌≤◌, false, List, [], ◌++◌, length, replicate, Option, Some, Result, Ok, Err}
+use Rattle.std.specs.Prelude.{◌≡◌, ◌⊎◌, ℕ, ◌+◌, ◌<◌, ◌≤◌, false, List, [], ◌++◌, length, replicate, Option, Some}
+use Rattle.std.specs.Prelude.{Result, Ok, Err}
 use Rattle.std.specs.Int.{w32, to_be_bytes}
 use Rattle.disk_base.specs.Faults.{HasCause}
 use Rattle.disk_base.specs.SameDisk.{IsSameDisk}
@@ -25,6 +26,7 @@ empty_file slots = record {
   slots = slots;
   gates = replicate slots false;
   mark = record { value = 0; second = false };
+  floor = record { value = 0; second = false };
   list = [];
 }
 
@@ -57,7 +59,7 @@ pub record HasFormatted {D : Type 0} (members : disk.Ghosts D) (old new : D) (sl
   pub calls : OnlyAdds WritesOrSyncs (members.calls old) (members.calls new)
   pub same_disk : IsSameDisk members old new
 
--- the empty list stands, with all slots closed and mark 0 in the first copy, and is in hand
+-- the empty list stands, with all slots closed and mark and floor 0 in their first copies, and is in hand
 abbrev pub Formats : {D : Type 0} → disk.Ghosts D → D → ℕ → Result (SpoolView D) (Formatting D) → Type 0
 Formats members old slots (Ok v) =
     HasFormatted members old v.disk slots Done

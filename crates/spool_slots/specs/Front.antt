@@ -1,8 +1,8 @@
 -- What stands in front of the slots of a spool file (this profile).
-use Rattle.std.specs.Prelude.{ℕ, ◌+◌, ◌^◌, ◌%◌, ◌==◌, nat_lt, if◌then◌else◌, List, [], ◌∷◌}
-use Rattle.std.specs.Prelude.{take, slice_index, Option, Some, None}
-use Rattle.std.specs.Int.{w32, w64, from_be_bytes}
+use Rattle.std.specs.Prelude.{ℕ, ◌+◌, ◌^◌, ◌==◌, nat_lt, if◌then◌else◌, List, [], ◌∷◌, take, Option, Some, None}
+use Rattle.std.specs.Int.{w32, from_be_bytes}
 use Rattle.disk_base.specs.Story.{bytes_at}
+use Rattle.gate_cell.specs.Cell.{Cell, cell_in, copy_place}
 use Rattle.spool_slots.specs.Area.{or_else}
 use Rattle.spool_slots.specs.Slot.{slot_place}
 
@@ -19,7 +19,7 @@ magic = 71 ∷ 76 ∷ 83 ∷ 80 ∷ 79 ∷ 79 ∷ 76 ∷ 49 ∷ []
 
 -- how many bytes are tested in front of the slots, and the first ones of a file
 abbrev pub front_size : ℕ
-front_size = 29
+front_size = 46
 
 abbrev pub front_in : List ℕ → List ℕ
 front_in bytes = take front_size bytes
@@ -28,19 +28,19 @@ front_in bytes = take front_size bytes
 abbrev pub slots_of : List ℕ → ℕ
 slots_of front = from_be_bytes w32 (bytes_at front 8 4)
 
--- of the cell that begins at a place, the place of the copy that its gate names, and the number there
-abbrev pub copy_at : ℕ → List ℕ → ℕ
-copy_at at front = if slice_index front (at + 16) % 2 == 0 then at else at + 8
-
-abbrev pub number_at : ℕ → List ℕ → ℕ
-number_at at front = from_be_bytes w64 (bytes_at front (copy_at at front) 8)
-
--- where the cell of the mark begins, and the mark
+-- where the cells of the mark and of the floor begin
 abbrev pub mark_cell : ℕ
 mark_cell = 12
 
+abbrev pub floor_cell : ℕ
+floor_cell = 29
+
+-- the mark, and the floor, below which no message stands
 abbrev pub mark_of : List ℕ → ℕ
-mark_of front = number_at mark_cell front
+mark_of front = (cell_in front mark_cell).value
+
+abbrev pub floor_of : List ℕ → ℕ
+floor_of front = (cell_in front floor_cell).value
 
 unfoldable pub magic_break : List ℕ → Option ℕ
 magic_break front = unlike_at 0 magic front
@@ -54,13 +54,17 @@ slots_break front size =
     else (if nat_lt size (slot_place (slots_of front)) then Some size
     else None)))
 
--- where a cell has a number above the most that it may have
-abbrev pub cell_break : ℕ → ℕ → List ℕ → Option ℕ
-cell_break at most front = if nat_lt most (number_at at front) then Some (copy_at at front) else None
+-- where a cell that begins at a place has a value above the most that it may have: at the copy that counts
+abbrev pub cell_break : ℕ → ℕ → Cell → Option ℕ
+cell_break at most cell = if nat_lt most cell.value then Some (at + copy_place cell.second) else None
 
 abbrev pub mark_break : List ℕ → Option ℕ
-mark_break front = cell_break mark_cell (2 ^ 32) front
+mark_break front = cell_break mark_cell (2 ^ 32) (cell_in front mark_cell)
+
+abbrev pub floor_break : List ℕ → Option ℕ
+floor_break front = cell_break floor_cell (2 ^ 63) (cell_in front floor_cell)
 
 -- where the front breaks
 unfoldable pub front_break : List ℕ → ℕ → Option ℕ
-front_break front size = or_else (magic_break front) (or_else (slots_break front size) (mark_break front))
+front_break front size =
+    or_else (magic_break front) (or_else (slots_break front size) (or_else (mark_break front) (floor_break front)))

@@ -4,6 +4,7 @@ pub mod Changes
 pub mod File
 pub mod Format
 pub mod Front
+pub mod Logs
 pub mod Losses
 pub mod Reading
 pub mod Reads

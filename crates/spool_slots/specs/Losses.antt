@@ -1,9 +1,10 @@
 -- What a power loss leaves of a work that it interrupts (this profile).
-use Rattle.std.specs.Prelude.{◌≡◌, ◌==◌, ℕ, ◌≤◌, Bool, true, false, not, if◌then◌else◌, List, Option, Some}
-use Rattle.disk_base.specs.Cut.{image_of}
+use Rattle.std.specs.Prelude.{◌≡◌, ◌==◌, ℕ, ◌≤◌, Bool, true, false, not, if◌then◌else◌, List, [], ◌∷◌, slice_index}
+use Rattle.std.specs.Prelude.{Option, Some}
+use Rattle.disk_base.specs.Cut.{chosen_byte, image_of}
 use Rattle.disk_base.specs.Faults.{DiskHealth, GoesAsListed, IsPlanned}
-use Rattle.disk_base.specs.Story.{Story}
-use Rattle.disk_base.specs.Through.{GoesThrough}
+use Rattle.disk_base.specs.Story.{Story, with_part}
+use Rattle.disk_base.specs.Through.{EachImage, GoesThrough}
 use Rattle.disk_base.specs.declared.cut.CutChoice.{CutChoice}
 use Rattle.disk_base.specs.declared.cut.CutChoice.TheVariants.{Old, New, Fill, First}
 use Rattle.gate_cell.specs.Cell.{Cell, cell_in, names_second, with_value}
@@ -26,6 +27,24 @@ gate_counts (First n) means = not (n == 0)
 abbrev pub file_left : Bool → SpoolFile → SpoolFile → SpoolFile
 file_left true done undone = done
 file_left false done undone = undone
+
+-- 5A opens a slot, and any other byte closes it
+abbrev pub opens : ℕ → Bool
+opens gate = gate == 90
+
+abbrev pub closes : ℕ → Bool
+closes gate = not (gate == 90)
+
+-- a crash now leaves this file
+abbrev pub Leaves : Option Story → Option Story → (List ℕ → SpoolFile) → Type 0
+Leaves before after file =
+    (s t : Story) → before ≡ Some s → after ≡ Some t → EachImage (λ image. StandsFor image (file s.now.bytes)) t.now
+
+-- of the write of one byte that the disk stopped at, or at its sync, a crash leaves the byte of its choice
+abbrev pub LeavesByte : Option Story → Option Story → ℕ → ℕ → Type 0
+LeavesByte before after at byte =
+    (s t : Story) → before ≡ Some s → after ≡ Some t → (choice : CutChoice) →
+    image_of choice t ≡ with_part s.now.bytes at (chosen_byte choice (slice_index s.now.bytes at) byte ∷ [])
 
 -- of the write of a gate that the disk stopped at, or at its sync, a crash leaves the change or the file as it was
 abbrev pub LeavesByGate : Option Story → Option Story → (ℕ → Bool) → (List ℕ → SpoolFile) → Type 0
@@ -52,4 +71,4 @@ LeavesValue s at value after =
 -- where one of the three calls that prepare it was to fail, the cell is left as it was; elsewhere the gate decides
 pub record HasLostValue (s : Story) (at value : ℕ) (before : DiskHealth) (after : Option Story) : Type 0 where
   pub early : IsPlanned before 3 → GoesThrough s after (Holds s.now at (cell_in s.now.bytes at))
-  pub late : (IsPlanned before 3 → ⊥) → LeavesValue s at value after
+  pub late : IsSure before 5 9 → (IsPlanned before 3 → ⊥) → LeavesValue s at value after

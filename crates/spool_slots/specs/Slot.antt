@@ -1,5 +1,6 @@
 -- A slot of the spool file, and the message in it (this profile).
-use Rattle.std.specs.Prelude.{ℕ, ◌+◌, ◌*◌, ◌^◌, ◌%◌, ◌==◌, Bool, ◌&&◌, nat_le, nat_lt, not, if◌then◌else◌, List, take, drop}
+use Rattle.std.specs.Prelude.{ℕ, ◌+◌, ◌*◌, ◌^◌, ◌%◌, ◌==◌, Bool, ◌&&◌, nat_le, nat_lt, not, if◌then◌else◌, List, take}
+use Rattle.std.specs.Prelude.{drop}
 use Rattle.std.specs.Prelude.{slice_index, Option, Some, None}
 use Rattle.std.specs.Int.{w32, w64, from_be_bytes}
 use Rattle.std.specs.Option.{option_map}
@@ -37,6 +38,10 @@ slot_in bytes k = record {
 abbrev pub is_open : Slot → Bool
 is_open slot = slot.gate == 90
 
+-- one stands where its number isn't below the floor; what is in any other slot counts for nothing
+abbrev pub stands_on : ℕ → Slot → Bool
+stands_on floor slot = is_open slot && nat_le floor slot.head.number
+
 -- a message with its number; its W bit counts as set
 pub record Message : Type 0 where
   pub number : ℕ
@@ -52,7 +57,7 @@ message_of slot = record {
   body = take slot.head.len slot.area;
 }
 
--- where the fields of an open slot k break, as a place in the slot
+-- where the fields of a slot k that stands break, as a place in the slot
 abbrev pub head_break : ℕ → ℕ → SlotHead → Option ℕ
 head_break slots k head =
     if nat_lt 4081 head.len then Some 11
@@ -61,13 +66,13 @@ head_break slots k head =
     else (if head.function % 2 == 0 then Some 10
     else None)))
 
--- a closed slot doesn't break
-abbrev pub slot_break : ℕ → ℕ → Slot → Option ℕ
-slot_break slots k slot = if is_open slot then head_break slots k slot.head else None
+-- no other one breaks
+abbrev pub slot_break : (floor slots k : ℕ) → Slot → Option ℕ
+slot_break floor slots k slot = if stands_on floor slot then head_break slots k slot.head else None
 
--- where an open slot has a number at or behind an end
-abbrev pub ahead_break : ℕ → Slot → Option ℕ
-ahead_break end slot = if is_open slot && nat_le end slot.head.number then Some 1 else None
+-- where a slot that stands has a number at or behind an end
+abbrev pub ahead_break : (floor end : ℕ) → Slot → Option ℕ
+ahead_break floor end slot = if stands_on floor slot && nat_le end slot.head.number then Some 1 else None
 
 -- a place in slot k as one in the file
 abbrev pub in_slot : ℕ → Option ℕ → Option ℕ

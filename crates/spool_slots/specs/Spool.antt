@@ -1,11 +1,11 @@
 -- A spool in hand: what is kept of it, and how that stands to the disk (this profile).
-use Rattle.std.specs.Prelude.{◌≡◌, ℕ, ◌+◌, ◌^◌, ◌%◌, ◌<◌, ◌≤◌, refl, [], length, Some, None}
+use Rattle.std.specs.Prelude.{◌≡◌, ℕ, ◌+◌, ◌^◌, ◌%◌, ◌<◌, ◌≤◌, refl, false, [], length, Some, None}
 use Rattle.std.specs.Coded.{Coded, code_by, coded×, coded_ℕ}
 use Rattle.disk_base.specs.Story.{Story}
 use Rattle.disk_base.specs.declared.disk.Disk as disk
 use Rattle.spool_slots.specs.File.{file_in, slots_in, spool_break}
 use Rattle.spool_slots.specs.Run.{IsChainFrom}
-use Rattle.spool_slots.specs.Slot.{head_break, slot_in, slot_place}
+use Rattle.spool_slots.specs.Slot.{head_break, is_open, slot_in, slot_place}
 use Rattle.spool_slots.specs.declared.recovery.Known.{Known}
 
 -- the disk, how many slots there are, the numbers of the oldest message and of the next one, how many messages there
@@ -61,6 +61,8 @@ pub record Rests (s : Story) (known : Known) : Type 0 where
   pub inside : slot_place known.slots ≤ length s.now.bytes
   pub slots_are : known.slots ≡ slots_in s.now.bytes
   pub mark_is : known.mark ≡ (file_in s.now.bytes).mark.value
+  -- so the next message stands, too, once its slot is open
+  pub low : (file_in s.now.bytes).floor.value ≤ known.first
   pub chain : IsChainFrom known.first known.next (file_in s.now.bytes).list
   pub count : known.len ≡ length (file_in s.now.bytes).list
 
@@ -75,8 +77,9 @@ pub record IsSpool {D : Type 0} (members : disk.Ghosts D) (v : SpoolView D) : Ty
   pub mark_most : v.mark ≤ 2 ^ 32
   pub rests : (s : Story) → members.told v.disk ≡ Some s → Rests s (known_of v)
 
--- the next slot holds the fields of the next message
+-- the next slot is closed, and holds the fields of the next message
 pub record HasParts (s : Story) (slots next : ℕ) : Type 0 where
+  pub closed : is_open (slot_in s.now.bytes (next % slots)) ≡ false
   pub fields : head_break slots (next % slots) (slot_in s.now.bytes (next % slots)).head ≡ None
   pub number : (slot_in s.now.bytes (next % slots)).head.number ≡ next
 

@@ -11,7 +11,7 @@ ghost use Rattle.gate_cell.specs.Cell.{cell_in, with_value};
 ghost use Rattle.gate_cell.specs.Holds.{HoldsEither};
 ghost use Rattle.gate_cell.specs.Ready.{IsCell, OnDisk};
 ghost use Rattle.spool_slots.specs.Changes.{HasValue, LogsValue};
-ghost use Rattle.spool_slots.specs.Losses.{HasLostValue, IsSure};
+ghost use Rattle.spool_slots.specs.Losses.{HasLostValue};
 
 use disk_base::{Disk, cut_leaves_the_chosen_byte, failed_settle_has_written};
 use gate_cell::prepare;
@@ -33,7 +33,7 @@ pub fn write_cell<D: Disk>(disk: D, at: u64, value: u64) -> Result<D, D>
         AsListed (D.told disk) (D.calls disk) (D.told after) (D.calls after)) }
     ensures cause { OnDisk (λ d. d) result (λ after answer.
         HasCause (D.health disk) (D.health after) 5 9 ((D.health disk).room < 9) answer) }
-    ensures loss { (s : Story) → D.told disk ≡ Some s → IsSure (D.health disk) 5 9 →
+    ensures loss { (s : Story) → D.told disk ≡ Some s →
         IfErr result (λ after. HasLostValue s at value (D.health disk) (D.told after)) }
     ensures same_disk { OnDisk (λ d. d) result (λ after answer. IsSameDisk D.Disk disk after) }
 {

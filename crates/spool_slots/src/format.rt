@@ -16,7 +16,7 @@ use disk_base::{Disk, DiskAnswer};
 /// What stands before the slots.
 pub type Page = ArrayVec<u8, SLOT_SIZE>;
 
-/// The first page of a new file: its name, how many slots there are, and no mark yet.
+/// The first page of a new file: its name, how many slots there are, and zeros, which are mark 0 and floor 0.
 #[tactic(auto, unfolding(crate::specs::Format::first_page))]
 pub fn first_page(slots: u32) -> Page
     ensures { result.items ≡ page_of slots }

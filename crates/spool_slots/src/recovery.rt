@@ -3,7 +3,7 @@
 ghost use Rattle.std.specs.Prelude.{◌≡◌, ◌+◌, ◌-◌, ◌*◌, ◌^◌, ◌<◌, ◌≤◌};
 ghost use Rattle.disk_base.specs.SameDisk.{IsSameDisk};
 ghost use Rattle.spool_slots.specs.Reading.{FileFits, FileIs, reading_answer};
-ghost use Rattle.spool_slots.specs.Reads.{HasRead, file_reads};
+ghost use Rattle.spool_slots.specs.Reads.{HasRead, MakesWhole, file_looks, file_reads};
 
 use crate::front::read_front;
 use crate::reading::Reading;
@@ -62,6 +62,17 @@ impl Known {
         }
     }
 
+    /// Without any message.
+    pub fn without_all(self) -> Known
+        ensures { result ≡ record self { first = self.next; len = 0 } }
+    {
+        Known {
+            first: self.next,
+            len: 0,
+            ..self
+        }
+    }
+
     /// Without the first message, which takes so many slots.
     pub fn without_first(self, slots: u32) -> Known
         requires some { 0 < self.len }
@@ -85,10 +96,12 @@ pub fn read_file<D: Disk>(disk: &mut D) -> Reading<Known>
     ensures reads { HasRead (D.health disk.old) (D.health disk.new) (D.calls disk.old) (D.calls disk.new)
         (file_reads (D.size_is disk.old) result)
         (reading_answer result) }
+    ensures exact { MakesWhole file_looks (D.told disk.old) (D.health disk.old) (D.health disk.new)
+        (D.calls disk.old) (D.calls disk.new) (reading_answer result) }
     ensures same_disk { IsSameDisk D.Disk disk.old disk.new }
 {
     match read_front(disk) {
-        Reading::Whole(front) => match read_slots(disk, front.slots) {
+        Reading::Whole(front) => match read_slots(disk, front.floor, front.slots) {
             Reading::Whole(scan) => Reading::Whole(Known {
                 slots: front.slots,
                 first: scan.least,

@@ -2,14 +2,14 @@
 
 ghost use Rattle.std.specs.Prelude.{◌≡◌, ◌+◌, ◌^◌, ◌<◌, ◌≤◌, ◌%◌, Some};
 ghost use Rattle.disk_base.specs.Story.{Story};
-ghost use Rattle.spool_slots.specs.Changes.{Drops, Looks, Reserves, Stages, parts_of as bytes_of};
+ghost use Rattle.spool_slots.specs.Changes.{Clears, Drops, Looks, Reserves, Stages, parts_of as bytes_of};
 ghost use Rattle.spool_slots.specs.Spool.{IsSpool, Rests, in_hand, known_of};
 
 use crate::cells::write_cell;
-use crate::front::{MARK_CELL, MARK_MOST};
+use crate::front::{FLOOR_CELL, MARK_CELL, MARK_MOST};
 use crate::recovery::{Known, MARK_STEP};
 use crate::slot::{BODY_MOST, CLOSED, NUMBERS, SLOT_SIZE, head_in, slot_of};
-use crate::slots::{settle_gate, settle_parts, slot_place};
+use crate::slots::{settle_gate, settle_parts, shut_gate, slot_place};
 use crate::staged::{Staged, with_parts};
 use crate::states::{Dropping, OldestAnswer, Reserving, Spent, Staging};
 use crate::stored::{Stored, parts_of};
@@ -113,9 +113,11 @@ impl<D: Disk> Spool<D> {
         OldestAnswer::Found(head_in(into))
     }
 
-    /// Writes all of a message but its gate, in one write, and syncs. Its slot is closed before and after, so a crash
-    /// finds the list as it was. It is refused, and the spool handed back, for the first of these: a body of more than
-    /// 4,081 bytes (`TooLong`), no closed slot (`Full`), no number below 2^63 left (`NumbersSpent`).
+    /// Writes all of a message but its gate, in one write, and syncs. First it reads the gate of the slot, and where
+    /// that is open still, since the floor has passed its message, closes it with a sync of its own: in all three
+    /// calls of the disk, or five. A crash finds the list as it was. It is refused before its first call, and the
+    /// spool handed back, for the first of these: a body of more than 4,081 bytes (`TooLong`), as many messages as
+    /// slots (`Full`), no number below 2^63 left (`NumbersSpent`).
     pub fn stage(self, message: &Stored<'_>) -> Result<Staged<D>, Staging<D>>
         requires function { message.now.function % 2 ≡ 1 }
         requires stream { message.now.stream < 128 }
@@ -134,6 +136,10 @@ impl<D: Disk> Spool<D> {
         let parts = parts_of(next, message);
         let known = self.known;
         let mut disk = self.disk;
+        match shut_gate(&mut disk, known.slots, next) {
+            DiskAnswer::Failed => return Err(Staging::Failed(Spent { disk })),
+            DiskAnswer::Done => {}
+        }
         match settle_parts(&mut disk, known.slots, next, &parts) {
             DiskAnswer::Done => Ok(with_parts(disk, known)),
             DiskAnswer::Failed => Err(Staging::Failed(Spent { disk })),
@@ -158,6 +164,23 @@ impl<D: Disk> Spool<D> {
                 cut_leaves_the_chosen_byte();
                 Err(Dropping::Failed(Spent { disk }))
             }
+        }
+    }
+
+    /// Takes all messages off the list in one move: the floor rises to the next number, and no message below it
+    /// stands, though its slot stays open. A crash finds the whole list, or none of it. It makes five calls of the
+    /// disk, and none where the list is empty. `Err` comes only where the disk has counted a fault; where it had room
+    /// and went on, and a call behind the third failed, the gate of the floor's cell decides what a crash finds.
+    pub fn clear(self) -> Result<Spool<D>, Spent<D>>
+        ensures { Clears D.Disk self result }
+    {
+        let known = self.known;
+        if known.len == 0 {
+            return Ok(self);
+        }
+        match write_cell(self.disk, FLOOR_CELL, known.next) {
+            Ok(disk) => Ok(taken_up(disk, known.without_all())),
+            Err(disk) => Err(Spent { disk }),
         }
     }
 

@@ -89,8 +89,9 @@ impl<D: Disk> Raw<D> {
         Raw { disk }
     }
 
-    /// Makes the file of an empty list and mark 0, and syncs. A number of slots that no file has is refused first, then
-    /// a device that is too small for them; neither is touched. Until this is `Ok` a crash may leave anything.
+    /// Makes the file of an empty list, mark 0 and floor 0, and syncs. A number of slots that no file has is refused
+    /// first, then a device that is too small for them; neither is touched. Until this is `Ok` a crash may leave
+    /// anything.
     pub fn format(self, slots: u32) -> Result<Spool<D>, Formatting<D>>
         ensures { Formats D.Disk self.disk slots result }
     {
@@ -116,8 +117,9 @@ impl<D: Disk> Raw<D> {
     }
 
     /// Takes up the list and the mark for which the device's bytes stand, after a sync, and writes nothing. Bytes that
-    /// stand for none are `NotSpool`, with the first place at which they break. It makes one read, and one of each
-    /// slot; a second one of the slots only where the numbers of the open ones have a gap.
+    /// stand for none are `NotSpool`, with the first place at which they break. It makes one read of 46 bytes, and one
+    /// of 15 of each slot; a second one of the slots only where the numbers of those that stand have a gap. The next
+    /// number of an empty list is the floor.
     pub fn recover(self) -> Result<Spool<D>, Recovering<D>>
         ensures { Recovers D.Disk self.disk result }
     {

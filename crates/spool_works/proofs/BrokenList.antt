@@ -1,10 +1,12 @@
 -- What a crash leaves where a planned call has stopped the disk in one of many works.
-use Rattle.std.proofs.Common.{◌≡◌, subst, arith, zero, suc, ◌+◌, ◌<◌, ℕ, List, [], ◌∷◌, ◌++◌, length, length-append, Some, Err}
+use Rattle.std.proofs.Common.{◌≡◌, subst, arith, zero, suc, ◌+◌, ◌<◌, ℕ, List, [], ◌∷◌, ◌++◌, length, length-append}
+use Rattle.std.proofs.Common.{Some, Err}
 use Rattle.disk_base.specs.Cut.{image_of}
 use Rattle.disk_base.specs.Story.{Story}
 use Rattle.disk_base.specs.declared.cut.CutChoice.{CutChoice}
 use Rattle.disk_base.specs.declared.disk.Disk as disk
 use Rattle.gem_spool.specs.declared.spool.GemSpool.{GemSpool}
+use Rattle.gem_spool.specs.Updates.{Left}
 use Rattle.gem_spool.specs.Standing.{Standing}
 use Rattle.gem_spool.specs.Works.{Does, DoesAll, standing_after, standings_after}
 use Rattle.gem_spool.specs.declared.works.Work.{Work}
@@ -13,41 +15,41 @@ use Rattle.spool_slots.specs.File.{StandsFor}
 use Rattle.spool_slots.specs.declared.states.Spent.{Spent}
 use Rattle.message_end.specs.Ends.{call_of}
 use Rattle.spool_works.specs.Breaking.{HasLeftAt, HasRoomLeft, LeavesImages}
-use Rattle.spool_works.specs.SpoolLosses.{Left, work_calls}
 use Rattle.spool_works.proofs.BrokenPasses.{IsOver, work-passes}
-use Rattle.spool_works.proofs.BrokenPurge.{purge-left}
-use Rattle.spool_works.proofs.BrokenWorks.{drop-left, put-left}
+use Rattle.spool_works.proofs.BrokenWorks.{drop-left, purge-left}
+use Rattle.spool_works.proofs.BrokenPuts.{put-left}
 use Rattle.spool_works.proofs.RoomKept.{room-kept}
-use Rattle.spool_works.proofs.LossCounts.{work-count}
+use Rattle.spool_works.proofs.LossCounts.{calls-count}
+use Rattle.spool_works.specs.DiskWorks.DiskWork.{Change}
+use Rattle.spool_works.specs.WorkLosses.{calls_at}
 
 -- the calls of works, one after the other
 abbrev pub works_left : Standing → List Work → List Left
 works_left st [] = []
-works_left st (one ∷ works) = work_calls st one ++ works_left (standing_after st one) works
+works_left st (one ∷ works) = calls_at st (Change one) ++ works_left (standing_after st one) works
 
 module _ {D : Type 0} (members : disk.Ghosts D) (spent : Spent D) (t : Story) (new : members.told spent.disk ≡ Some t)
     (images : LeavesImages t) (free : HasRoomLeft (members.health spent.disk)) where
   -- at the first work
   pub work-breaks :
       (g : GemSpool D) (one : Work) (st : Standing) (s : Story) → IsOver members g.spool st s
-      → Does members g one (Err spent) → HasLeftAt (work_calls st one) (members.health g.spool.disk).stop_in t
+      → Does members g one (Err spent) → HasLeftAt (calls_at st (Change one)) (members.health g.spool.disk).stop_in t
   work-breaks g (work.Put stream function body) st s is does =
       put-left members g.spool st spent s t is.stands is.told new images is.goes
-      (room-kept (members.health g.spool.disk) (members.health spent.disk) 4 _ does.0.cause free) stream function body
-      does.0 does.2
+      (room-kept (members.health g.spool.disk) (members.health spent.disk) _ _ does.0.makes.cause free) stream function
+      body does.0 does.1
   work-breaks g work.DropOldest st s is does =
       drop-left members g.spool st spent s t is.stands is.told new images is.goes
       (room-kept (members.health g.spool.disk) (members.health spent.disk) 2 _ does.0.disk.cause free) does
   work-breaks g work.Purge st s is does =
-      let lost = does.1 in
-      purge-left members lost.0 g.spool lost.1 spent st s t is new images lost.2
-      (room-kept (members.health lost.1.disk) (members.health spent.disk) 2 _ lost.3.0.disk.cause free) lost.3
+      purge-left members g.spool st spent s t is.stands is.told new images is.goes
+      (room-kept (members.health g.spool.disk) (members.health spent.disk) 5 _ does.1.0.cause free) does
 
   -- or behind some that were done, at one of its own calls
   pub record HasPlace (xs : List Work) (one : Work) (st : Standing) (stop : ℕ) : Type 0 where
     pub left : Left
     pub call : ℕ
-    pub is : call_of call (work_calls (standings_after st xs) one) ≡ Some left
+    pub is : call_of call (calls_at (standings_after st xs) (Change one)) ≡ Some left
     pub place : length (works_left st xs) + call ≡ stop
     pub at : (choice : CutChoice) → StandsFor (image_of choice t) (left choice)
 
@@ -72,10 +74,11 @@ module _ {D : Type 0} (members : disk.Ghosts D) (spent : Spent D) (t : Story) (n
         call = at.call;
         is = at.is;
         place =
-            let long = work-count st x in
-            let both = length-append (work_calls st x) (works_left (standing_after st x) xs) in
+            let long = calls-count st (Change x) in
+            let both = length-append (calls_at st (Change x)) (works_left (standing_after st x) xs) in
             let near = comes.passed.nearer in let place = at.place in
-            let some = planned at.call (work_calls (standings_after (standing_after st x) xs) one) at.left at.is in
+            let some =
+            planned at.call (calls_at (standings_after (standing_after st x) xs) (Change one)) at.left at.is in
             omega (arith, long, both, near, place, some);
         at = at.at;
       }

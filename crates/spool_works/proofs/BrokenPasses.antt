@@ -4,12 +4,13 @@ use Rattle.disk_base.specs.Faults.{DiskHealth, IsUsed}
 use Rattle.disk_base.specs.Story.{Story}
 use Rattle.disk_base.specs.declared.disk.Disk as disk
 use Rattle.disk_base.proofs.Stretches.{lists_on}
-use Rattle.gem_spool.proofs.Doing.{does_stands, does_used}
+use Rattle.gem_spool.proofs.Amid.{does_amid}
+use Rattle.gem_spool.proofs.Called.{does_makes}
+use Rattle.gem_spool.proofs.Doing.{does_stands}
 use Rattle.gem_spool.specs.declared.spool.GemSpool.{GemSpool}
 use Rattle.gem_spool.specs.Standing.{Standing, Stands}
 use Rattle.gem_spool.specs.Works.{Does, bytes_of, calls_of, standing_after}
 use Rattle.gem_spool.specs.declared.works.Work.{Work}
-use Rattle.gem_spool.specs.declared.works.Work.TheVariants as work
 use Rattle.spool_slots.specs.Spool.{SpoolView}
 use Rattle.spool_works.specs.Breaking.{HasPassed, IsGoingDisk}
 
@@ -36,29 +37,18 @@ module _ {D : Type 0} (members : disk.Ghosts D) where
     pub over : IsOver w st mid
     pub passed : HasPassed (members.health v.disk) (members.health w.disk) calls
 
-  -- a disk that told its bytes tells them still
-  told-then :
-      (g h : GemSpool D) (one : Work) → Does members g one (Ok h) → (s : Story) → members.told g.spool.disk ≡ Some s
-      → (t : Story) × (members.told h.spool.disk ≡ Some t)
-  told-then g h (work.Put stream function body) does s told =
-      let all = does.0.images s told in (all.0, all.1)
-  told-then g h work.DropOldest does s told = let all = does.0.0.images s told in (all.0, all.1)
-  told-then g h work.Purge does s told = let all = does.0.0.images s told in (all.0, all.1)
-
   pub work-passes :
       (g h : GemSpool D) (one : Work) (st : Standing) (s : Story) → IsOver g.spool st s → Does members g one (Ok h)
       → HasComeTo g.spool h.spool (calls_of st one) (standing_after st one)
   work-passes g h one st s is does =
+      let mid = does_amid members g h one st is.stands does s is.told in
       record {
-        mid = then.0;
-        over = record { stands = does_stands members g h one st is.stands does; told = then.1; goes = passed.on };
+        mid = mid.0;
+        over = record { stands = does_stands members g h one st is.stands does; told = mid.1; goes = passed.on };
         passed = passed;
       }
     where
-      then : (t : Story) × (members.told h.spool.disk ≡ Some t)
-      then = told-then g h one does s is.told
-
       passed : HasPassed (members.health g.spool.disk) (members.health h.spool.disk) (calls_of st one)
       passed =
           used-passes (members.health g.spool.disk) (members.health h.spool.disk) (calls_of st one) (bytes_of st one)
-          (does_used members g h one st is.stands.count does) is.goes
+          (does_makes members g h one st is.stands s is.told does).cause is.goes

@@ -1,5 +1,6 @@
 -- What a crash leaves where a planned call has stopped the disk in a work of the spool, at each of its calls.
-use Rattle.std.proofs.Common.{◌≡◌, ◌⊎◌, refl, sym, ap, subst, ◌∙◌, inl, inr, arith, nat_lt, nat_le, zero, suc, ◌+◌, ◌<◌, ◌≤◌, Bool, true, false, ℕ, List, [], ◌∷◌, length, Some, Err, if◌then◌else◌}
+use Rattle.std.proofs.Common.{◌≡◌, ◌⊎◌, refl, sym, ap, subst, ◌∙◌, inl, inr, arith, nat_lt, nat_le, zero, suc, ◌+◌, ◌<◌}
+use Rattle.std.proofs.Common.{◌≤◌, Bool, true, false, ℕ, List, [], ◌∷◌, length, Some, Err}
 use Rattle.std.proofs.lemmas.Bool.Decides.{nat_tests}
 use Rattle.disk_base.specs.Cut.{image_of}
 use Rattle.disk_base.specs.Faults.{DiskFault, DiskHealth, IsAmong, IsPlanned}
@@ -9,35 +10,39 @@ use Rattle.disk_base.specs.declared.cut.CutChoice.{CutChoice}
 use Rattle.disk_base.specs.declared.disk.Disk as disk
 use Rattle.disk_base.specs.declared.disk.DiskAnswer.TheVariants.{Failed}
 use Rattle.disk_base.proofs.Moments.{only_now}
-use Rattle.gem_spool.specs.Spool.{HasLostPut, HasPut, numbered, put_in}
-use Rattle.gem_spool.specs.declared.count.Count.{Count}
-use Rattle.gem_spool.specs.declared.spool.Room.{Room}
-use Rattle.gem_spool.specs.declared.spool.Room.TheVariants as room
+use Rattle.gate_cell.specs.Cell.{Cell, cell_in}
 use Rattle.gem_spool.specs.Standing.{Standing, Stands}
-use Rattle.gem_spool.specs.Works.{reserved, standing_after}
+use Rattle.gem_spool.specs.Updates.{Left, Update, by_gate, cell_update, losses_in, stays}
+use Rattle.gem_spool.specs.Works.{floor_above, reserved, standing_after}
 use Rattle.gem_spool.specs.declared.works.Work.TheVariants as work
-use Rattle.spool_slots.specs.Changes.{Drops, HasLooked, HasLostReserve, HoldsThrough, IsSame, Reserves, with_mark_moved, with_message, without_first}
+use Rattle.gem_spool.proofs.Amid.{purge_one}
+use Rattle.gem_spool.proofs.Doing.{len_is, next_is, same_file}
+use Rattle.spool_slots.specs.Changes.{Clears, Drops, HasLooked, HoldsThrough, IsSame, Moves, Reserves, cleared_in}
+use Rattle.spool_slots.specs.Changes.{reserved_in, with_floor_moved, with_mark_moved, without_first}
 use Rattle.spool_slots.specs.File.{SpoolFile, StandsFor, file_in}
-use Rattle.spool_slots.specs.Losses.{IsSure, file_left, gate_counts, names_spare}
+use Rattle.spool_slots.specs.Front.{floor_cell, mark_cell}
+use Rattle.spool_slots.specs.Losses.{IsSure, closes, file_left, gate_counts, names_spare}
+use Rattle.spool_slots.specs.Slot.{Message}
 use Rattle.spool_slots.specs.Spool.{SpoolView}
 use Rattle.spool_slots.specs.declared.states.Dropping.TheVariants as dropping
 use Rattle.spool_slots.specs.declared.states.Reserving.TheVariants as reserving
 use Rattle.spool_slots.specs.declared.states.Spent.{Spent}
 use Rattle.message_end.specs.Ends.{call_of}
 use Rattle.spool_works.specs.Breaking.{HasLeftAt, HasRoomLeft, IsGoingDisk, LeavesImages}
-use Rattle.spool_works.specs.SpoolLosses.{Left, by_gate, closes, drop_calls, opens, put_calls, read_calls, reserve_calls, stays}
-use Rattle.spool_works.proofs.Held.{held}
+use Rattle.spool_works.specs.DiskWorks.DiskWork.{Change, ReadOldest, Reserve}
+use Rattle.spool_works.specs.WorkLosses.{calls_at}
 
 -- ---- which call it was
 
 -- one of two, or of five
-one-of-two : (call : ℕ) (left : Left) → IsAmong call 2 → call_of call (left ∷ left ∷ []) ≡ Some left
+pub one-of-two : (call : ℕ) (left : Left) → IsAmong call 2 → call_of call (left ∷ left ∷ []) ≡ Some left
 one-of-two zero left among = absurd (let some = among.0 in omega (arith, some))
 one-of-two (suc zero) left among = refl
 one-of-two (suc (suc zero)) left among = refl
 one-of-two (suc (suc (suc n))) left among = absurd (let most = among.1 in omega (arith, most))
 
-first-three : (call : ℕ) (one two : Left) → IsAmong call 3 → call_of call (one ∷ one ∷ one ∷ two ∷ two ∷ []) ≡ Some one
+first-three : (call : ℕ) (one two : Left) → IsAmong call 3
+    → call_of call (one ∷ one ∷ one ∷ two ∷ two ∷ []) ≡ Some one
 first-three zero one two among = absurd (let some = among.0 in omega (arith, some))
 first-three (suc zero) one two among = refl
 first-three (suc (suc zero)) one two among = refl
@@ -54,12 +59,12 @@ last-two (suc (suc (suc (suc zero)))) one two not among = refl
 last-two (suc (suc (suc (suc (suc zero))))) one two not among = refl
 last-two (suc (suc (suc (suc (suc (suc n)))))) one two not among = absurd (let most = among.1 in omega (arith, most))
 
-only-one : (call : ℕ) (left : Left) → IsAmong call 1 → call_of call (left ∷ []) ≡ Some left
+pub only-one : (call : ℕ) (left : Left) → IsAmong call 1 → call_of call (left ∷ []) ≡ Some left
 only-one zero left among = absurd (let some = among.0 in omega (arith, some))
 only-one (suc zero) left among = refl
 only-one (suc (suc n)) left among = absurd (let most = among.1 in omega (arith, most))
 
-either-among : (call calls : ℕ) → IsAmong call calls ⊎ (IsAmong call calls → ⊥)
+pub either-among : (call calls : ℕ) → IsAmong call calls ⊎ (IsAmong call calls → ⊥)
 either-among call calls = go (nat_lt 0 call) (nat_le call calls) refl refl
   where
     go : (some most : Bool) → nat_lt 0 call ≡ some → nat_le call calls ≡ most
@@ -71,21 +76,6 @@ either-among call calls = go (nat_lt 0 call) (nat_le call calls) refl refl
 pub story-inj : (a b : Story) → Some a ≡ Some b → a ≡ b
 story-inj a b same = cc
 
-first-pair : (call : ℕ) (one two : Left) → IsAmong call 2 → call_of call (one ∷ one ∷ two ∷ two ∷ []) ≡ Some one
-first-pair zero one two among = absurd (let some = among.0 in omega (arith, some))
-first-pair (suc zero) one two among = refl
-first-pair (suc (suc zero)) one two among = refl
-first-pair (suc (suc (suc n))) one two among = absurd (let most = among.1 in omega (arith, most))
-
-second-pair : (call : ℕ) (one two : Left) → (IsAmong call 2 → ⊥) → IsAmong call 4
-    → call_of call (one ∷ one ∷ two ∷ two ∷ []) ≡ Some two
-second-pair zero one two not among = absurd (let some = among.0 in omega (arith, some))
-second-pair (suc zero) one two not among = absurd (not (omega arith, omega arith))
-second-pair (suc (suc zero)) one two not among = absurd (not (omega arith, omega arith))
-second-pair (suc (suc (suc zero))) one two not among = refl
-second-pair (suc (suc (suc (suc zero)))) one two not among = refl
-second-pair (suc (suc (suc (suc (suc n))))) one two not among = absurd (let most = among.1 in omega (arith, most))
-
 module _ {D : Type 0} (members : disk.Ghosts D) (v : SpoolView D) (st : Standing) (spent : Spent D) (s t : Story)
     (is : Stands members v st) (old : members.told v.disk ≡ Some s) (new : members.told spent.disk ≡ Some t)
     (images : LeavesImages t) (goes : IsGoingDisk (members.health v.disk))
@@ -93,11 +83,11 @@ module _ {D : Type 0} (members : disk.Ghosts D) (v : SpoolView D) (st : Standing
   abbrev pub health : DiskHealth
   health = members.health v.disk
 
-  file-is : st.file ≡ file_in s.now.bytes
-  file-is = held members v st is s old
+  pub file-is : st.file ≡ file_in s.now.bytes
+  file-is = same_file members v st is s old
 
   -- only the planned call fails
-  planned-stop : (calls : ℕ) → IsPlanned health calls → IsAmong health.stop_in calls
+  pub planned-stop : (calls : ℕ) → IsPlanned health calls → IsAmong health.stop_in calls
   planned-stop calls (inl fails) =
       absurd (let some = fails.0 in let none = goes.fails_not in omega (arith, some, none))
   planned-stop calls (inr (inl stops)) = stops
@@ -106,8 +96,8 @@ module _ {D : Type 0} (members : disk.Ghosts D) (v : SpoolView D) (st : Standing
       both : health.stopped ≡ false → health.stopped ≡ true → ⊥
       both one two = cc
 
-  by-cause :
-      (calls n : ℕ) (after : DiskHealth) → calls ≤ 5 → n ≤ 4096 → DiskFault health after calls (health.room < n)
+  pub by-cause :
+      (calls n : ℕ) (after : DiskHealth) → calls ≤ 7 → n ≤ 4097 → DiskFault health after calls (health.room < n)
       → IsAmong health.stop_in calls
   by-cause calls n after few short fault =
       go (fault.lacking (let fits = free.calls in omega (arith, few, fits)))
@@ -116,7 +106,7 @@ module _ {D : Type 0} (members : disk.Ghosts D) (v : SpoolView D) (st : Standing
       go (inl planned) = planned-stop calls planned
       go (inr lacks) = absurd (let fits = free.bytes in omega (arith, lacks, short, fits))
 
-  sure : (calls n : ℕ) → calls ≤ 5 → n ≤ 4096 → IsSure health calls n
+  pub sure : (calls n : ℕ) → calls ≤ 7 → n ≤ 4097 → IsSure health calls n
   sure calls n few short = record {
     going = goes.going;
     calls_fit = let fits = free.calls in omega (arith, few, fits);
@@ -124,7 +114,7 @@ module _ {D : Type 0} (members : disk.Ghosts D) (v : SpoolView D) (st : Standing
   }
 
   -- what every crash leaves
-  each-left : (P : List ℕ → Type 0) → GoesThrough s (members.told spent.disk) P → (choice : CutChoice)
+  pub each-left : (P : List ℕ → Type 0) → GoesThrough s (members.told spent.disk) P → (choice : CutChoice)
       → P (image_of choice t)
   each-left P through choice =
       subst (λ (u : Story). EachImage P u.now) (sym (story-inj t through.0 (sym new ∙ through.1))) through.2.last
@@ -135,7 +125,7 @@ module _ {D : Type 0} (members : disk.Ghosts D) (v : SpoolView D) (st : Standing
   through-of P holds = let is = holds s old in (is.0, is.1, is.2)
 
   -- what is left where nothing of the work is done
-  left-same : HoldsThrough (members.told v.disk) (members.told spent.disk) IsSame → (choice : CutChoice)
+  pub left-same : HoldsThrough (members.told v.disk) (members.told spent.disk) IsSame → (choice : CutChoice)
       → StandsFor (image_of choice t) st.file
   left-same holds choice =
       subst (StandsFor (image_of choice t)) (sym file-is)
@@ -143,7 +133,8 @@ module _ {D : Type 0} (members : disk.Ghosts D) (v : SpoolView D) (st : Standing
 
   -- ---- a message leaves
 
-  pub drop-left : Drops members v (Err (dropping.Failed spent)) → HasLeftAt (drop_calls st) health.stop_in t
+  pub drop-left : Drops members v (Err (dropping.Failed spent))
+      → HasLeftAt (calls_at st (Change work.DropOldest)) health.stop_in t
   drop-left drops = record {
     left = by_gate closes (standing_after st work.DropOldest) st;
     is =
@@ -155,41 +146,80 @@ module _ {D : Type 0} (members : disk.Ghosts D) (v : SpoolView D) (st : Standing
         (drops.1 (sure 2 1 (omega arith) (omega arith)) s t old new choice);
   }
 
-  -- ---- the mark moves on
+  -- ---- a cell gets another value
 
-  pub reserve-left : Reserves members v (Err (reserving.Failed spent)) → HasLeftAt (reserve_calls st) health.stop_in t
-  reserve-left reserves = go (either-among health.stop_in 3)
+  module _ (at value : ℕ) (cell : Cell) (there : cell ≡ cell_in s.now.bytes at) (moved : SpoolFile → SpoolFile) where
+    abbrev one : Standing → Update
+    one behind = cell_update at cell value behind
+
+    pub cell-left : (behind : Standing) → behind.file ≡ moved st.file
+        → Moves members v.disk spent.disk at value (λ bytes. moved (file_in bytes)) Failed
+        → HasLeftAt (losses_in st (one behind ∷ [])) health.stop_in t
+    cell-left behind file moves = go (either-among health.stop_in 3)
+      where
+        among : IsAmong health.stop_in 5
+        among = by-cause 5 9 (members.health spent.disk) (omega arith) (omega arith) moves.0.cause
+
+        gate : Left
+        gate = by_gate (names_spare cell) behind st
+
+        go : IsAmong health.stop_in 3 ⊎ (IsAmong health.stop_in 3 → ⊥)
+            → HasLeftAt (losses_in st (one behind ∷ [])) health.stop_in t
+        go (inl early) = record {
+          left = stays st;
+          is = first-three health.stop_in (stays st) gate early;
+          at = left-same (moves.1.early (inr (inl early)));
+        }
+        go (inr late) = record {
+          left = gate;
+          is = last-two health.stop_in (stays st) gate late among;
+          at = λ choice.
+              subst (λ (f : SpoolFile).
+              StandsFor (image_of choice t) (file_left (gate_counts choice (names_spare cell)) f st.file)) (sym file)
+              (subst (λ (f : SpoolFile).
+              StandsFor (image_of choice t) (file_left (gate_counts choice (names_spare cell)) (moved f) f))
+              (sym file-is)
+              (subst (λ (c : Cell). StandsFor (image_of choice t)
+              (file_left (gate_counts choice (names_spare c)) (moved (file_in s.now.bytes)) (file_in s.now.bytes)))
+              (sym there)
+              (moves.1.late (sure 5 9 (omega arith) (omega arith)) (λ planned. late (planned-stop 3 planned)) s t old
+              new choice)));
+        }
+
+  -- the mark
+  pub reserve-left : Reserves members v (Err (reserving.Failed spent))
+      → HasLeftAt (calls_at st Reserve) health.stop_in t
+  reserve-left reserves =
+      cell-left mark_cell (st.file.mark.value + 4096) st.file.mark (ap (λ (f : SpoolFile). f.mark) file-is)
+      with_mark_moved (reserved st) refl
+      (subst (λ (n : ℕ). Moves members v.disk spent.disk mark_cell (n + 4096) reserved_in Failed) is.mark reserves.1)
+
+  -- the floor
+  pub purge-left : Clears members v (Err spent) → HasLeftAt (calls_at st (Change work.Purge)) health.stop_in t
+  purge-left clears =
+      purge_one st (λ (updates : List Update). HasLeftAt (losses_in st updates) health.stop_in t) some
+      (λ message list.
+      cell-left floor_cell st.next st.file.floor (ap (λ (f : SpoolFile). f.floor) file-is) (with_floor_moved st.next)
+      (standing_after st work.Purge) (cleared some)
+      (subst (λ (n : ℕ). Moves members v.disk spent.disk floor_cell n (cleared_in n) Failed) (next_is members v st is)
+      clears.1))
     where
-      among : IsAmong health.stop_in 5
-      among = by-cause 5 9 (members.health spent.disk) (omega arith) (omega arith) reserves.0.cause
+      some : 0 < length st.file.list
+      some = subst (λ (n : ℕ). 0 < n) (len_is members v st is) clears.0
 
-      gate : Left
-      gate = by_gate (names_spare st.file.mark) (reserved st) st
-
-      lost : HasLostReserve members v spent.disk
-      lost = reserves.1 (sure 5 9 (omega arith) (omega arith))
-
-      go : IsAmong health.stop_in 3 ⊎ (IsAmong health.stop_in 3 → ⊥) → HasLeftAt (reserve_calls st) health.stop_in t
-      go (inl early) = record {
-        left = stays st;
-        is = first-three health.stop_in (stays st) gate early;
-        at = left-same (lost.early (inr (inl early)));
-      }
-      go (inr late) = record {
-        left = gate;
-        is = last-two health.stop_in (stays st) gate late among;
-        at = λ choice.
-            subst (StandsFor (image_of choice t))
-            (ap
-            (λ (f : SpoolFile). file_left (gate_counts choice (names_spare f.mark)) (with_mark_moved f) f)
-            (sym file-is))
-            (lost.late (λ planned. late (planned-stop 3 planned)) s t old new choice);
-      }
+      cleared : 0 < length st.file.list → (standing_after st work.Purge).file ≡ with_floor_moved st.next st.file
+      cleared some = go st.file.list some
+        where
+          go : (list : List Message) → 0 < length list
+              → record (with_floor_moved st.next st.file) { floor = floor_above st.next list st.file.floor }
+              ≡ with_floor_moved st.next st.file
+          go [] none = absurd (omega (arith, none))
+          go (message ∷ list) some = refl
 
   -- ---- the oldest message is read
 
   pub read-left : (k : ℕ) (w : SpoolView D) → w.disk ≡ spent.disk → HasLooked members v w k Failed
-      → HasLeftAt (read_calls st) health.stop_in t
+      → HasLeftAt (calls_at st ReadOldest) health.stop_in t
   read-left k w same looked = record {
     left = stays st;
     is = only-one health.stop_in (stays st) (go (looked.cause.lacking (let fits = free.calls in omega (arith, fits))));
@@ -209,56 +239,3 @@ module _ {D : Type 0} (members : disk.Ghosts D) (v : SpoolView D) (st : Standing
       go : IsPlanned health 1 ⊎ ⊥ → IsAmong health.stop_in 1
       go (inl planned) = planned-stop 1 planned
       go (inr none) = absurd none
-
-  -- ---- a message is put
-
-  module _ (stream function : ℕ) (body : List ℕ) where
-    put-file : (counts : Bool)
-        → file_left counts (put_in (numbered v stream function body) s.now.bytes) (file_in s.now.bytes)
-        ≡ file_left counts (standing_after st (work.Put stream function body)).file st.file
-    put-file counts =
-        ap (λ (f : SpoolFile). file_left counts (with_message (numbered v stream function body) f) f) (sym file-is)
-        ∙ ap
-        (λ (n : ℕ).
-        file_left counts
-        (with_message (record { number = n; stream = stream; function = function; body = body }) st.file) st.file)
-        (ap (λ (c : Count). c.next) is.count)
-
-    pub put-left :
-        HasPut members v stream function body spent.disk Failed
-        → (IsSure health 4 (length body + 15) → HasLostPut members v stream function body spent.disk)
-        → HasLeftAt (put_calls (standing_after st (work.Put stream function body)) st) health.stop_in t
-    put-left put loses = go (either-among health.stop_in 2)
-      where
-        fits-short : (long : Bool) (rest : Room) → (if long then room.TooLong else rest) ≡ room.Fits → long ≡ false
-        fits-short true rest same = absurd (cc)
-        fits-short false rest same = refl
-
-        short : length body + 15 ≤ 4096
-        short =
-            let fits : nat_lt 4081 (length body) ≡ false = fits-short (nat_lt 4081 (length body)) _ put.fits in
-            grind (arith, nat_tests, fits)
-
-        among : IsAmong health.stop_in 4
-        among = by-cause 4 (length body + 15) (members.health spent.disk) (omega arith) short put.cause
-
-        gate : Left
-        gate = by_gate opens (standing_after st (work.Put stream function body)) st
-
-        lost : HasLostPut members v stream function body spent.disk
-        lost = loses (sure 4 (length body + 15) (omega arith) short)
-
-        go : IsAmong health.stop_in 2 ⊎ (IsAmong health.stop_in 2 → ⊥)
-            → HasLeftAt (put_calls (standing_after st (work.Put stream function body)) st) health.stop_in t
-        go (inl early) = record {
-          left = stays st;
-          is = first-pair health.stop_in (stays st) gate early;
-          at = left-same (lost.early (inr (inl early)));
-        }
-        go (inr late) = record {
-          left = gate;
-          is = second-pair health.stop_in (stays st) gate late among;
-          at = λ choice.
-              subst (StandsFor (image_of choice t)) (put-file (gate_counts choice opens))
-              (lost.late (λ planned. late (planned-stop 2 planned)) s t old new choice);
-        }

@@ -1,5 +1,6 @@
 -- The call of a place among some calls behind others, and how many have passed.
-use Rattle.std.proofs.Common.{◌≡◌, refl, subst, arith, nat_le, ◌+◌, ◌<◌, zero, suc, Bool, true, false, ℕ, List, [], ◌∷◌, ◌++◌, length, Some}
+use Rattle.std.proofs.Common.{◌≡◌, refl, subst, arith, nat_le, ◌+◌, ◌<◌, zero, suc, Bool, true, false, ℕ, List, [], ◌∷◌}
+use Rattle.std.proofs.Common.{◌++◌, length, Some}
 use Rattle.std.proofs.lemmas.Bool.Decides.{nat_tests}
 use Rattle.std.specs.Prelude.{slice_get}
 use Rattle.disk_base.specs.Faults.{DiskHealth, IsAmong}

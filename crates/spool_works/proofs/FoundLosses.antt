@@ -1,22 +1,23 @@
 -- That what a loss of power leaves of a work is what a start may find.
-use Rattle.std.proofs.Common.{◌≡◌, refl, sym, ap, subst, ◌∙◌, inl, inr, arith, zero, suc, ◌+◌, ◌-◌, ◌≤◌, Bool, true, false, ℕ, List, [], ◌∷◌, ◌++◌, append-nil, drop, length, Option, Some, None}
+use Rattle.std.proofs.Common.{◌≡◌, refl, sym, ap, subst, ◌∙◌, ◌⊎◌, inl, inr, arith, zero, suc, ◌+◌, ◌-◌, ◌≤◌, true}
+use Rattle.std.proofs.Common.{false, ℕ, List, [], ◌∷◌, ◌++◌, append-nil, drop, length, Option, Some, None}
 use Rattle.disk_base.specs.declared.cut.CutChoice.{CutChoice}
+use Rattle.gem_spool.specs.Updates.{Left}
 use Rattle.gem_spool.specs.Standing.{Standing}
-use Rattle.gem_spool.specs.Works.{reserved, standing_after}
 use Rattle.gem_spool.specs.declared.works.Work.TheVariants as work
 use Rattle.message_end.specs.Own.{Has}
-use Rattle.spool_law.specs.Shelf.{IsFoundOf, leaving_of}
-use Rattle.spool_slots.specs.Losses.{file_left, gate_counts, names_spare}
+use Rattle.spool_law.specs.Shelf.{IsFoundOf, leaves_by, leaving_of}
+use Rattle.spool_slots.specs.File.{SpoolFile}
 use Rattle.spool_slots.specs.Slot.{Message}
 use Rattle.trace_log.specs.Names.{Spooled}
 use Rattle.trace_log.specs.declared.names.Cause.{Cause}
 use Rattle.trace_log.specs.declared.names.Cause.TheVariants as cause
-use Rattle.spool_works.specs.DiskWorks.{DiskWork}
+use Rattle.spool_works.specs.DiskWorks.{DiskWork, standing_behind}
 use Rattle.spool_works.specs.DiskWorks.DiskWork.{Change, ReadOldest, Reserve}
 use Rattle.spool_works.specs.Found.{found_in, spooled_of}
+use Rattle.spool_works.proofs.EachLoss.{each-work}
 use Rattle.spool_works.proofs.LossCounts.{Each}
-use Rattle.spool_works.specs.SpoolLosses.{Left, by_gate, closes, opens, purge_calls}
-use Rattle.spool_works.specs.WorkLosses.{LossesAreFound, MayLeaveAt, calls_at, storing_at}
+use Rattle.spool_works.specs.WorkLosses.{LossesAreFound, MayLeaveAt, PurgesAreWhole, calls_at, storing_at}
 
 -- ---- lists
 
@@ -39,10 +40,9 @@ pub length-drop-one : (list : List Message) → length (drop 1 list) ≡ length 
 length-drop-one [] = refl
 length-drop-one (first ∷ list) = omega arith
 
-drop-one : (n : ℕ) (list : List Message) → drop 1 (drop n list) ≡ drop (suc n) list
-drop-one zero list = refl
-drop-one (suc n) [] = refl
-drop-one (suc n) (first ∷ list) = drop-one n list
+drop-all : {X : Type 0} (list : List X) → drop (length list) list ≡ []
+drop-all [] = refl
+drop-all (x ∷ list) = drop-all list
 
 -- ---- what is found
 
@@ -80,80 +80,47 @@ module _ (stood : List Message) (storing : Option (ℕ × Spooled)) (leaving : O
   abbrev pub Leaves : Left → Type 0
   Leaves left = (choice : CutChoice) → Finds stood storing leaving (left choice).list
 
-  by-gate :
-      (means : ℕ → Bool) (done undone : Standing) → Finds stood storing leaving done.file.list
-      → Finds stood storing leaving undone.file.list → Leaves (by_gate means done undone)
-  by-gate means done undone is is_not choice = go (gate_counts choice means)
-    where
-      go : (counts : Bool) → Finds stood storing leaving (file_left counts done.file undone.file).list
-      go true = is
-      go false = is_not
-
--- so many messages are gone, and so many are left to go
-purge-each :
-    (left gone : ℕ) (stood : List Message) (st : Standing) → st.file.list ≡ drop gone stood → gone + left ≤ length stood
-    → Each (Leaves stood None (Some cause.Purged)) (purge_calls left st)
-purge-each zero gone stood st is most = tt
-purge-each (suc left) gone stood st is most =
-    (one, (one, purge-each left (suc gone) stood next next-is (omega (arith, most))))
-  where
-    next : Standing
-    next = standing_after st work.DropOldest
-
-    next-is : next.file.list ≡ drop (suc gone) stood
-    next-is = ap (λ (list : List Message). drop 1 list) is ∙ drop-one gone stood
-
-    less : (n : ℕ) → n ≤ length stood → (list : List Message) → list ≡ drop n stood
-        → Finds stood None (Some cause.Purged) list
-    less n most list is =
-        let long = found-long stood in
-        subst (λ (all : List Message). Finds stood None (Some cause.Purged) all) (sym is)
-        (finds-less n stood None (Some cause.Purged) (omega (arith, most, long)))
-
-    one : Leaves stood None (Some cause.Purged) (by_gate closes next st)
-    one =
-        by-gate stood None (Some cause.Purged) closes next st
-        (less (suc gone) (omega (arith, most)) next.file.list next-is)
-        (less gone (omega (arith, most)) st.file.list is)
-
 pub each-call :
     (st : Standing) (one : DiskWork) (leaving : Option Cause) → MayLeaveAt one leaving
     → Each (Leaves st.file.list (storing_at st.next one) leaving) (calls_at st one)
-each-call st Reserve leaving may =
-    let same = finds-all st.file.list None leaving in
-    let gate = by-gate st.file.list None leaving (names_spare st.file.mark) (reserved st) st same same in
-    (λ choice. same, (λ choice. same, (λ choice. same, (gate, (gate, tt)))))
-each-call st ReadOldest leaving may = (λ choice. finds-all st.file.list None leaving, tt)
-each-call st (Change (work.Put stream function body)) leaving may =
-    let one : Message = record { number = st.next; stream = stream; function = function; body = body } in
-    let storing : Option (ℕ × Spooled) = Some (st.next, spooled_of one) in
-    let same = finds-all st.file.list storing leaving in
-    let gate =
-    by-gate st.file.list storing leaving opens (standing_after st (work.Put stream function body)) st
-    (finds-more st.file.list one leaving) same
-    in
-    (λ choice. same, (λ choice. same, (gate, (gate, tt))))
-each-call st (Change work.DropOldest) leaving may = (gate, (gate, tt))
+each-call st one leaving may =
+    each-work (λ (file : SpoolFile). Finds st.file.list (storing_at st.next one) leaving file.list) st one
+    (finds-all st.file.list (storing_at st.next one) leaving)
+    (finds-all st.file.list (storing_at st.next one) leaving) (after one may)
   where
-    one : 1 ≤ leaving_of leaving (length (found_in st.file.list))
-    one = go may
-      where
-        go : MayLeaveAt (Change work.DropOldest) leaving → 1 ≤ leaving_of leaving (length (found_in st.file.list))
-        go (inl is) =
-            subst (λ (why : Option Cause). 1 ≤ leaving_of why (length (found_in st.file.list))) (sym is) (omega arith)
-        go (inr is) =
-            subst (λ (why : Option Cause). 1 ≤ leaving_of why (length (found_in st.file.list))) (sym is) (omega arith)
+    some : (why : Cause) → leaving ≡ Some why → leaves_by why (length (found_in st.file.list))
+        ≤ leaving_of leaving (length (found_in st.file.list))
+    some why is =
+        subst
+        (λ (leaves : Option Cause).
+        leaves_by why (length (found_in st.file.list)) ≤ leaving_of leaves (length (found_in st.file.list)))
+        (sym is) (omega arith)
 
-    gate : Leaves st.file.list None leaving (by_gate closes (standing_after st work.DropOldest) st)
-    gate =
-        by-gate st.file.list None leaving closes (standing_after st work.DropOldest) st
-        (finds-less 1 st.file.list None leaving one) (finds-all st.file.list None leaving)
-each-call st (Change work.Purge) leaving may =
-    subst (λ (why : Option Cause). Each (Leaves st.file.list None why) (purge_calls (length st.file.list) st)) (sym may)
-    (purge-each (length st.file.list) 0 st.file.list st refl (omega arith))
+    after : (one : DiskWork) → MayLeaveAt one leaving
+        → Finds st.file.list (storing_at st.next one) leaving (standing_behind st one).file.list
+    after Reserve may = finds-all st.file.list None leaving
+    after ReadOldest may = finds-all st.file.list None leaving
+    after (Change (work.Put stream function body)) may =
+        finds-more st.file.list (record { number = st.next; stream = stream; function = function; body = body }) leaving
+    after (Change work.DropOldest) (inl is) = finds-less 1 st.file.list None leaving (some cause.Confirmed is)
+    after (Change work.DropOldest) (inr is) = finds-less 1 st.file.list None leaving (some cause.Overwritten is)
+    after (Change work.Purge) is = record {
+      missing = length (found_in st.file.list);
+      stored = false;
+      at_most = some cause.Purged is;
+      is = sym (append-nil _ ∙ drop-all (found_in st.file.list));
+    }
 
 pub losses-found : LossesAreFound
 losses-found st one leaving may left has choice =
     each-has (Leaves st.file.list (storing_at st.next one) leaving) (calls_at st one) left
-    (each-call st one leaving may) has
-    choice
+    (each-call st one leaving may) has choice
+
+-- what a loss leaves of a purge
+pub purges-whole : PurgesAreWhole
+purges-whole st left has choice =
+    each-has
+    (λ (one : Left). (choice : CutChoice) → ((one choice).list ≡ st.file.list) ⊎ ((one choice).list ≡ []))
+    (calls_at st (Change work.Purge)) left
+    (each-work (λ (file : SpoolFile). (file.list ≡ st.file.list) ⊎ (file.list ≡ [])) st (Change work.Purge) (inl refl)
+    (inl refl) (inr refl)) has choice

@@ -1,12 +1,14 @@
 pub mod BrokenList
 pub mod BrokenPasses
-pub mod BrokenPurge
+pub mod BrokenPuts
 pub mod BrokenWorks
 pub mod CallPlaces
 pub mod Called
 pub mod Counted
+pub mod EachLoss
+mod EachUpdate
 pub mod FoundLosses
-pub mod Held
 pub mod LossCounts
 pub mod RoomKept
+pub mod WorkedCalls
 pub mod WritesFew

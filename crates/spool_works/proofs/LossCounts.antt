@@ -1,17 +1,14 @@
 -- How often power may be lost in a work: once at each of its calls.
-use Rattle.std.proofs.Common.{◌≡◌, refl, inl, inr, arith, zero, suc, ◌+◌, ◌*◌, ℕ, List, [], ◌∷◌, ◌++◌, length, map, Some}
+use Rattle.std.proofs.Common.{◌≡◌, refl, inl, inr, arith, zero, suc, ◌+◌, ℕ, List, [], ◌∷◌, ◌++◌, length, length-append}
+use Rattle.std.proofs.Common.{map, Option, Some, None}
 use Rattle.std.specs.Prelude.{slice_get}
+use Rattle.gem_spool.specs.Updates.{Gate, Left, Update, behind_update, calls_in, gate_calls, gate_losses, losses_in}
+use Rattle.gem_spool.specs.Updates.{stays}
 use Rattle.gem_spool.specs.Standing.{Standing}
-use Rattle.gem_spool.specs.Works as spool
-use Rattle.gem_spool.specs.Works.{standing_after}
-use Rattle.gem_spool.specs.declared.works.Work.{Work}
-use Rattle.gem_spool.specs.declared.works.Work.TheVariants as work
 use Rattle.message_end.specs.Ends.{call_of}
 use Rattle.message_end.specs.Own.{Has}
-use Rattle.spool_works.specs.DiskWorks.{DiskWork, calls_of}
-use Rattle.spool_works.specs.DiskWorks.DiskWork.{Change, ReadOldest, Reserve}
+use Rattle.spool_works.specs.DiskWorks.{DiskWork, calls_of, updates_at}
 use Rattle.spool_works.specs.WorkLosses.{calls_at}
-use Rattle.spool_works.specs.SpoolLosses.{Left, purge_calls, work_calls}
 
 -- ---- lists
 
@@ -27,20 +24,24 @@ Each P (left ∷ calls) = P left × Each P calls
 
 -- ---- the calls of a work
 
-purge-count : (left : ℕ) (st : Standing) → length (purge_calls left st) ≡ 2 * left
-purge-count zero st = refl
-purge-count (suc left) st =
-    let rest = purge-count left (standing_after st work.DropOldest) in omega (arith, rest)
+gate-count : (st : Standing) (gate : Option Gate) → length (gate_losses st gate) ≡ length (gate_calls gate)
+gate-count st None = refl
+gate-count st (Some gate) = refl
 
-pub work-count : (st : Standing) (one : Work) → length (work_calls st one) ≡ spool.calls_of st one
-work-count st (work.Put stream function body) = refl
-work-count st work.DropOldest = refl
-work-count st work.Purge = purge-count (length st.file.list) st
+updates-count : (updates : List Update) (st : Standing) → length (losses_in st updates) ≡ length (calls_in updates)
+updates-count [] st = refl
+updates-count (update ∷ updates) st =
+    let stay = map (λ call. stays st) update.early in
+    let early = length-both (λ call. stays st) update.early (gate_losses st update.gate) in
+    let left = length-append (stay ++ gate_losses st update.gate) (losses_in (behind_update st update) updates) in
+    let made = length-append update.early (gate_calls update.gate) in
+    let all = length-append (update.early ++ gate_calls update.gate) (calls_in updates) in
+    let gate = gate-count st update.gate in
+    let rest = updates-count updates (behind_update st update) in
+    omega (arith, early, left, made, all, gate, rest)
 
 pub calls-count : (st : Standing) (one : DiskWork) → length (calls_at st one) ≡ calls_of st one
-calls-count st Reserve = refl
-calls-count st (Change one) = work-count st one
-calls-count st ReadOldest = refl
+calls-count st one = updates-count (updates_at st one) st
 
 -- the one at a call is among them
 get-has : {X : Type 0} (calls : List X) (n : ℕ) (x : X) → slice_get calls n ≡ Some x → Has calls x

@@ -1,13 +1,20 @@
 -- That calls of works write little, one after the other.
-use Rattle.std.proofs.Common.{arith, ℕ, zero, suc, ◌+◌, ◌*◌, ◌≤◌, List, [], ◌∷◌, ◌++◌, All, length, length-append, take}
+use Rattle.std.proofs.Common.{◌≡◌, arith, ℕ, zero, suc, ◌+◌, ◌*◌, ◌≤◌, Bool, true, false, List, [], ◌∷◌, ◌++◌, All}
+use Rattle.std.proofs.Common.{length, length-append, take, Some, None, if◌then◌else◌}
 use Rattle.std.proofs.lemmas.List.Elements.{All-head, All-tail}
 use Rattle.disk_base.specs.Calls.{DiskCall}
+use Rattle.gem_spool.specs.Updates.{calls_in, closing, gate_calls, reads, syncs, writes}
 use Rattle.gem_spool.specs.Standing.{Standing}
-use Rattle.spool_works.specs.DiskWorks.{DiskWork, bytes_of, calls_of}
-use Rattle.spool_works.specs.DiskCalls.{disk_calls, drop_calls, purge_calls, written_by}
+use Rattle.gem_spool.specs.Works.{is_stale, next_place, purge_updates, unstale}
+use Rattle.gem_spool.specs.declared.works.Work.TheVariants as work
+use Rattle.spool_slots.specs.Changes.{parts_of}
+use Rattle.spool_slots.specs.Logs.{written_by}
+use Rattle.spool_slots.specs.Slot.{Message}
+use Rattle.spool_works.specs.DiskCalls.{disk_calls}
+use Rattle.spool_works.specs.DiskWorks.{DiskWork}
+use Rattle.spool_works.specs.DiskWorks.DiskWork.{Change, ReadOldest, Reserve}
 use Rattle.spool_works.specs.WritesFew.{WriteFew, all_of}
-use Rattle.spool_works.proofs.Called.{written-both}
-use Rattle.spool_works.proofs.Counted.{work-long, work-written}
+use Rattle.spool_slots.proofs.Making.{length_copy, written_both}
 
 -- ---- fronts
 
@@ -45,7 +52,7 @@ fronts-both (x ∷ xs) ys made bytes first whole second (suc n) =
 pub few-both : (xs ys : List DiskCall) → WriteFew xs → WriteFew ys → WriteFew (xs ++ ys)
 few-both xs ys first second = record {
   whole =
-      let wrote = written-both xs ys in let long = length-append xs ys in
+      let wrote = written_both xs ys in let long = length-append xs ys in
       let one = first.whole in let two = second.whole in omega (arith, wrote, long, one, two);
   fronts = λ n.
       let both =
@@ -57,28 +64,51 @@ few-both xs ys first second = record {
 pub few-none : WriteFew []
 few-none = record { whole = omega arith; fronts = short-fronts [] (omega arith) }
 
-drop-few : (slots number : ℕ) → WriteFew (drop_calls slots number)
-drop-few slots number = record {
-  whole = omega arith;
-  fronts = short-fronts (drop_calls slots number) (omega arith);
-}
+-- calls that write a page at most
+page-few : (calls : List DiskCall) → written_by calls ≤ 1024 * length calls → written_by calls ≤ 4096 → WriteFew calls
+page-few calls whole short = record { whole = whole; fronts = short-fronts calls short }
 
-pub purge-few : (slots first n : ℕ) → WriteFew (purge_calls slots first n)
-purge-few slots first zero = few-none
-purge-few slots first (suc n) =
-    few-both (purge_calls slots first n) (drop_calls slots (first + n)) (purge-few slots first n)
-    (drop-few slots (first + n))
+-- ---- works
 
--- one that writes a page at most, by so many calls
-pub one-few :
-    (st : Standing) (one : DiskWork) → bytes_of st one ≤ 1024 * calls_of st one
-    → bytes_of st one ≤ 4096 → WriteFew (disk_calls st one)
-one-few st one few short =
-    let long = work-long st one in let wrote = work-written st one in
-    record {
-      whole = omega (arith, long, wrote, few);
-      fronts = short-fronts (disk_calls st one) (omega (arith, wrote, short));
-    }
+-- a slot has room for the message that is put
+abbrev pub IsShort : DiskWork → Type 0
+IsShort (Change (work.Put stream function body)) = length body ≤ 4081
+IsShort _ = Unit {0}
+
+module _ (st : Standing) where
+  -- a message, and then its gate
+  parts-few : (stream function : ℕ) (body : List ℕ) → length body ≤ 4081
+      → WriteFew
+      (writes (next_place st + 1) (parts_of st.next stream function body)
+      ∷ syncs ∷ writes (next_place st) (90 ∷ []) ∷ syncs ∷ [])
+  parts-few stream function body short =
+      let long : length (parts_of st.next stream function body) ≡ length body + 14 = omega arith in
+      page-few _ (omega (arith, long, short)) (omega (arith, long, short))
+
+  -- behind a look at the gate, which is closed where it is stale
+  put-few : (stale : Bool) (calls : List DiskCall) → WriteFew calls
+      → WriteFew
+      (reads (next_place st) 1
+      ∷ gate_calls (if stale then Some (closing (next_place st) (unstale st)) else None) ++ calls)
+  put-few true calls few =
+      few-both (reads (next_place st) 1 ∷ writes (next_place st) (0 ∷ []) ∷ syncs ∷ []) calls
+      (page-few _ (omega arith) (omega arith)) few
+  put-few false calls few =
+      few-both (reads (next_place st) 1 ∷ []) calls (page-few _ (omega arith) (omega arith)) few
+
+  purge-few : (list : List Message) → WriteFew (calls_in (purge_updates list st))
+  purge-few [] = few-none
+  purge-few (message ∷ list) =
+      let long = length_copy st.next in page-few _ (omega (arith, long)) (omega (arith, long))
+
+  pub work-few : (one : DiskWork) → IsShort one → WriteFew (disk_calls st one)
+  work-few Reserve short =
+      let long = length_copy (st.file.mark.value + 4096) in page-few _ (omega (arith, long)) (omega (arith, long))
+  work-few ReadOldest short = page-few _ (omega arith) (omega arith)
+  work-few (Change (work.Put stream function body)) short =
+      put-few (is_stale st) _ (parts-few stream function body short)
+  work-few (Change work.DropOldest) short = page-few _ (omega arith) (omega arith)
+  work-few (Change work.Purge) short = purge-few st.file.list
 
 -- ---- steps behind a start
 
@@ -94,6 +124,6 @@ pub none-more :
     → written_by (start ++ take n (all_of steps)) ≤ 1024 * length (start ++ take n (all_of steps))
 none-more start steps slack are n =
     let behind = (all-few steps are).fronts n in
-    let wrote = written-both start (take n (all_of steps)) in
+    let wrote = written_both start (take n (all_of steps)) in
     let long = length-append start (take n (all_of steps)) in
     omega (arith, slack, behind, wrote, long)

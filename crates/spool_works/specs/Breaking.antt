@@ -5,9 +5,9 @@ use Rattle.disk_base.specs.Faults.{DiskHealth, GoesAsListed, IsAmong}
 use Rattle.disk_base.specs.Images.{IsImage}
 use Rattle.disk_base.specs.Story.{Story}
 use Rattle.disk_base.specs.declared.cut.CutChoice.{CutChoice}
+use Rattle.gem_spool.specs.Updates.{Left}
 use Rattle.spool_slots.specs.File.{StandsFor}
 use Rattle.message_end.specs.Ends.{call_of}
-use Rattle.spool_works.specs.SpoolLosses.{Left}
 
 -- the disk goes on, each call comes to what its entry says, and none of them is to fail alone; one may be to stop it
 pub record IsGoingDisk (health : DiskHealth) : Type 0 where
@@ -32,5 +32,5 @@ LeavesImages after = (choice : CutChoice) → IsImage after.now (image_of choice
 
 -- what is kept free for the calls of a work is free still
 pub record HasRoomLeft (health : DiskHealth) : Type 0 where
-  pub calls : 5 ≤ health.calls
-  pub bytes : 4096 ≤ health.room
+  pub calls : 7 ≤ health.calls
+  pub bytes : 4097 ≤ health.room

@@ -1,88 +1,23 @@
 -- Which calls of the disk the works of a step are, one by one, and which of them were made (this profile).
-use Rattle.std.specs.Prelude.{◌≡◌, ◌⊎◌, ℕ, zero, suc, ◌+◌, ◌-◌, ◌%◌, ◌≤◌, not, List, [], ◌∷◌, ◌++◌, length, Option, Result, Ok, Err}
+use Rattle.std.specs.Prelude.{◌≡◌, ◌⊎◌, ◌+◌, ◌≤◌, List, [], ◌∷◌, ◌++◌, length, Option, Result, Ok, Err}
 use Rattle.std.specs.Option.{option_map}
-use Rattle.disk_base.specs.Calls.{DiskCall, read_call, sync_call, write_call}
+use Rattle.disk_base.specs.Calls.{DiskCall}
 use Rattle.disk_base.specs.Faults.{IsCrowded}
 use Rattle.disk_base.specs.declared.disk.Disk as disk
-use Rattle.disk_base.specs.declared.disk.DiskAnswer.TheVariants.{Done, Failed}
-use Rattle.gate_cell.specs.Cell.{Cell, copy_bytes, gate_byte, spare_place}
-use Rattle.gem_spool.specs.declared.count.Count.{Count}
+use Rattle.disk_base.specs.declared.disk.DiskAnswer.TheVariants.{Failed}
 use Rattle.gem_spool.specs.declared.spool.GemSpool.{GemSpool}
-use Rattle.gem_spool.specs.declared.works.Work.{Work}
-use Rattle.gem_spool.specs.declared.works.Work.TheVariants as work
-use Rattle.gem_spool.specs.Standing.{Standing, count_in}
-use Rattle.spool_slots.specs.Changes.{parts_of}
-use Rattle.spool_slots.specs.Front.{mark_cell}
-use Rattle.spool_slots.specs.Slot.{slot_place}
+use Rattle.gem_spool.specs.Updates.{calls_in}
+use Rattle.gem_spool.specs.Standing.{Standing}
+use Rattle.spool_slots.specs.Logs.{written_by}
 use Rattle.spool_works.specs.declared.ended.Ended.{Ended}
 use Rattle.spool_works.specs.declared.ended.Ended.TheVariants as ended
-use Rattle.spool_works.specs.DiskWorks.{DiskWork, standing_behind}
-use Rattle.spool_works.specs.DiskWorks.DiskWork.{Change, ReadOldest, Reserve}
+use Rattle.spool_works.specs.DiskWorks.{DiskWork, updates_at, standing_behind}
 
 -- ---- the calls of a work, in their order
 
--- calls that are done
-abbrev pub reads : ℕ → ℕ → DiskCall
-reads at size = read_call at size Done
-
-abbrev pub writes : ℕ → List ℕ → DiskCall
-writes at bytes = write_call at bytes Done
-
-abbrev pub syncs : DiskCall
-syncs = sync_call Done
-
--- a message is put into the slot of its number: first all that stands behind the slot's gate, and then the gate, which
--- is 90 while the message stands
-abbrev pub put_calls : ℕ → ℕ → (stream function : ℕ) → List ℕ → List DiskCall
-put_calls slots number stream function body =
-    writes (slot_place (number % slots) + 1) (parts_of number stream function body)
-    ∷ syncs
-    ∷ writes (slot_place (number % slots)) (90 ∷ [])
-    ∷ syncs
-    ∷ []
-
--- a message leaves: the gate of its slot is closed
-abbrev pub drop_calls : ℕ → ℕ → List DiskCall
-drop_calls slots number = writes (slot_place (number % slots)) (0 ∷ []) ∷ syncs ∷ []
-
--- so many messages leave, the oldest first, which has this number
-abbrev pub purge_calls : ℕ → ℕ → ℕ → List DiskCall
-purge_calls slots first zero = []
-purge_calls slots first (suc n) = purge_calls slots first n ++ drop_calls slots (first + n)
-
--- the number of the oldest message
-abbrev pub oldest_in : Count → ℕ
-oldest_in c = c.next - c.len
-
--- the list changes
-abbrev pub change_calls : Standing → Work → List DiskCall
-change_calls st (work.Put stream function body) = put_calls st.file.slots st.next stream function body
-change_calls st work.DropOldest = drop_calls st.file.slots (oldest_in (count_in st))
-change_calls st work.Purge = purge_calls st.file.slots (oldest_in (count_in st)) (length st.file.list)
-
--- the oldest message is read, with all of its slot
-abbrev pub oldest_calls : Count → List DiskCall
-oldest_calls c = reads (slot_place (oldest_in c % c.slots)) 4096 ∷ []
-
--- another value is written over the copy of a cell that doesn't count, and then the cell's gate, which names this copy
-abbrev pub cell_calls : (at : ℕ) → Cell → ℕ → List DiskCall
-cell_calls at cell value =
-    reads (at + 16) 1
-    ∷ writes (spare_place at cell) (copy_bytes value)
-    ∷ syncs
-    ∷ writes (at + 16) (gate_byte (not cell.second) ∷ [])
-    ∷ syncs
-    ∷ []
-
--- the mark is moved on
-abbrev pub mark_calls : Cell → List DiskCall
-mark_calls mark = cell_calls mark_cell mark (mark.value + 4096)
-
--- any work of a step, where the spool stands so
+-- where the spool stands so
 abbrev pub disk_calls : Standing → DiskWork → List DiskCall
-disk_calls st Reserve = mark_calls st.file.mark
-disk_calls st (Change one) = change_calls st one
-disk_calls st ReadOldest = oldest_calls (count_in st)
+disk_calls st one = calls_in (updates_at st one)
 
 -- one after the other, each where the spool stands as those before it have left it
 abbrev pub all_disk_calls : Standing → List DiskWork → List DiskCall
@@ -94,11 +29,6 @@ all_disk_calls st (one ∷ works) = disk_calls st one ++ all_disk_calls (standin
 -- a disk's list of calls, where it tells it, with these behind the others
 abbrev pub with_calls : List DiskCall → Option (List DiskCall) → Option (List DiskCall)
 with_calls calls told = option_map (λ all. all ++ calls) told
-
--- how many bytes they write
-abbrev pub written_by : List DiskCall → ℕ
-written_by [] = 0
-written_by (call ∷ calls) = length call.bytes + written_by calls
 
 -- the same call, where it failed
 abbrev pub failing : DiskCall → DiskCall

@@ -1,11 +1,12 @@
--- The works that a step owes to the disk of a spool, one by one: what is noted by then, what stands behind, and what
--- they cost (this profile).
-use Rattle.std.specs.Prelude.{ℕ, ◌+◌, List, [], ◌∷◌, ◌++◌, fold, if◌then◌else◌}
+-- The works that a step owes to the disk of a spool, one by one: what is noted by then, what stands behind, and by
+-- which updates they are made (this profile).
+use Rattle.std.specs.Prelude.{◌≡◌, ℕ, ◌+◌, List, [], ◌∷◌, ◌++◌, fold, length, if◌then◌else◌}
 use Rattle.gem_spool.specs.declared.works.Work.{Work}
+use Rattle.gem_spool.specs.Updates.{IsAmidUpdates, Update, behind_updates, calls_in, cell_update, only_early, reads}
 use Rattle.gem_spool.specs.Standing.{Standing}
-use Rattle.gem_spool.specs.Works as spool
-use Rattle.gem_spool.specs.Works.{IsMarked, IsOnWay, reserved as marked, standing_after}
-use Rattle.spool_slots.specs.File.{StandsFor}
+use Rattle.gem_spool.specs.Works.{updates_of, oldest_place, reserved as marked, standing_after}
+use Rattle.spool_slots.specs.Front.{mark_cell}
+use Rattle.spool_slots.specs.Logs.{written_by}
 use Rattle.trace_log.specs.Log.{Happening, is_before_change}
 use Rattle.message_end.specs.Ends.{Asked}
 
@@ -36,6 +37,8 @@ fronts_of before (Change work ∷ works) notes =
     (before ++ up_to_change notes) ∷ fronts_of (before ++ up_to_change notes) works (behind_change notes)
 fronts_of before (ReadOldest ∷ works) notes = (before ++ notes) ∷ fronts_of before works notes
 
+-- ---- what they make, and how
+
 abbrev pub standing_behind : Standing → DiskWork → Standing
 standing_behind st Reserve = marked st
 standing_behind st (Change work) = standing_after st work
@@ -44,22 +47,22 @@ standing_behind st ReadOldest = st
 abbrev pub standings_behind : Standing → List DiskWork → Standing
 standings_behind = fold standing_behind
 
+-- the mark is moved on; the list changes; the slot of the oldest message is read
+abbrev pub updates_at : Standing → DiskWork → List Update
+updates_at st Reserve = cell_update mark_cell st.file.mark (st.file.mark.value + 4096) (marked st) ∷ []
+updates_at st (Change work) = updates_of st work
+updates_at st ReadOldest = only_early (reads (oldest_place st) 4096 ∷ []) ∷ []
+
 -- what a crash leaves amid a work
 abbrev pub IsAmidWork : Standing → DiskWork → List ℕ → Type 0
-IsAmidWork st Reserve image = IsMarked st image
-IsAmidWork st (Change work) image = IsOnWay st (work ∷ []) image
-IsAmidWork st ReadOldest image = StandsFor image st.file
+IsAmidWork st one image = IsAmidUpdates st (updates_at st one) image
 
 -- calls of the disk, and bytes that are written
 abbrev pub calls_of : Standing → DiskWork → ℕ
-calls_of st Reserve = 5
-calls_of st (Change work) = spool.calls_of st work
-calls_of st ReadOldest = 1
+calls_of st one = length (calls_in (updates_at st one))
 
 abbrev pub bytes_of : Standing → DiskWork → ℕ
-bytes_of st Reserve = 9
-bytes_of st (Change work) = spool.bytes_of st work
-bytes_of st ReadOldest = 0
+bytes_of st one = written_by (calls_in (updates_at st one))
 
 abbrev pub all_calls : Standing → List DiskWork → ℕ
 all_calls st [] = 0
@@ -71,3 +74,8 @@ all_bytes st (work ∷ works) = bytes_of st work + all_bytes (standing_behind st
 
 abbrev pub reserve_asks : Asked
 reserve_asks = record { calls = 5; bytes = 9 }
+
+-- behind the last update of a work stands what the work makes
+abbrev pub WorksAreUpdates : Type 0
+WorksAreUpdates =
+    (st : Standing) (one : DiskWork) → behind_updates st (updates_at st one) ≡ standing_behind st one

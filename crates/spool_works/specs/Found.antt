@@ -1,5 +1,7 @@
 -- What a start finds in a file: its messages, each with its number.
-use Rattle.std.specs.Prelude.{ℕ, List, [], ◌∷◌, map}
+use Rattle.std.specs.Prelude.{ℕ, List, map}
+use Rattle.spool_slots.specs.Area.{first_of}
+use Rattle.spool_slots.specs.File.{SpoolFile}
 use Rattle.spool_slots.specs.Slot.{Message}
 use Rattle.trace_log.specs.Names.{Spooled}
 
@@ -7,10 +9,9 @@ use Rattle.trace_log.specs.Names.{Spooled}
 abbrev pub spooled_of : Message → Spooled
 spooled_of message = record { stream = message.stream; function = message.function; body = message.body }
 
--- the number of the oldest message; 0 is the next number of an empty spool (this profile)
-abbrev pub first_in : List Message → ℕ
-first_in [] = 0
-first_in (message ∷ list) = message.number
+-- the number of the oldest message; where there is none, the floor, which is the next number then
+abbrev pub first_in : SpoolFile → ℕ
+first_in file = first_of file.floor.value file.list
 
 -- what is found, each message with its number
 abbrev pub found_in : List Message → List (ℕ × Spooled)

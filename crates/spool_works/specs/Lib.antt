@@ -3,7 +3,6 @@ pub mod DiskCalls
 pub mod DiskWorks
 pub mod Found
 pub mod HandedBack
-pub mod SpoolLosses
 pub mod WorkLosses
 pub mod WorkedCalls
 pub mod WritesFew

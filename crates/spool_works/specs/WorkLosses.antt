@@ -1,22 +1,20 @@
 -- Where power may be lost in a work of the spool, and that what it leaves is what a start may find (this profile).
-use Rattle.std.specs.Prelude.{◌≡◌, ◌⊎◌, ℕ, Option, Some, None, List}
+use Rattle.std.specs.Prelude.{◌≡◌, ◌⊎◌, ℕ, Option, Some, None, List, []}
 use Rattle.disk_base.specs.declared.cut.CutChoice.{CutChoice}
 use Rattle.gem_spool.specs.declared.works.Work.TheVariants as work
+use Rattle.gem_spool.specs.Updates.{Left, losses_in}
 use Rattle.gem_spool.specs.Standing.{Standing}
 use Rattle.message_end.specs.Own.{Has}
 use Rattle.spool_law.specs.Shelf.{IsFoundOf}
 use Rattle.trace_log.specs.Names.{Spooled}
 use Rattle.trace_log.specs.declared.names.Cause.{Cause}
 use Rattle.trace_log.specs.declared.names.Cause.TheVariants as cause
-use Rattle.spool_works.specs.DiskWorks.{DiskWork}
+use Rattle.spool_works.specs.DiskWorks.{DiskWork, updates_at}
 use Rattle.spool_works.specs.Found.{found_in}
-use Rattle.spool_works.specs.SpoolLosses.{Left, read_calls, reserve_calls, work_calls}
 
--- the calls of a work, in their order
+-- at each call of a work, in their order
 abbrev pub calls_at : Standing → DiskWork → List Left
-calls_at st DiskWork.Reserve = reserve_calls st
-calls_at st (DiskWork.Change one) = work_calls st one
-calls_at st DiskWork.ReadOldest = read_calls st
+calls_at st one = losses_in st (updates_at st one)
 
 -- ---- what a start finds then
 
@@ -45,3 +43,9 @@ LossesAreFound =
     (st : Standing) (one : DiskWork) (leaving : Option Cause) → MayLeaveAt one leaving → (left : Left)
     → Has (calls_at st one) left → (choice : CutChoice)
     → IsFoundOf (found_in st.file.list) (storing_at st.next one) leaving (found_in (left choice).list)
+
+-- of a purge it is all of the list, or nothing
+abbrev pub PurgesAreWhole : Type 0
+PurgesAreWhole =
+    (st : Standing) (left : Left) → Has (calls_at st (DiskWork.Change work.Purge)) left → (choice : CutChoice)
+    → ((left choice).list ≡ st.file.list) ⊎ ((left choice).list ≡ [])

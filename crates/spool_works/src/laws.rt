@@ -1,9 +1,24 @@
-//! What holds of the works of a spool's disk.
+//! What holds of the works of a spool's disk, and works that can be followed by hand.
 
-ghost use Rattle.spool_works.specs.WorkLosses.{LossesAreFound};
+ghost use Rattle.spool_works.specs.DiskWorks.{WorksAreUpdates};
+ghost use Rattle.spool_works.specs.WorkLosses.{LossesAreFound, PurgesAreWhole};
+ghost use Rattle.spool_works.specs.WorkedCalls.{CallsOfWorks, KeptBehindWorks, LossesOfWorks};
+
+/// Behind the last update of a work stands what the work makes of the spool.
+pub fn works_are_updates()
+    ensures { WorksAreUpdates }
+{}
 
 /// At whichever call of a work power is lost, and whatever becomes of the disk, what is left is what stood, less what
-/// was leaving, or with what was being stored at the end.
+/// was leaving, or with what was being stored at the end. Of a purge it is all or nothing.
 pub fn losses_are_found()
-    ensures { LossesAreFound }
+    ensures found { LossesAreFound }
+    ensures whole { PurgesAreWhole }
+{}
+
+/// Examples: the disk's calls of each kind of work, what is kept behind them, and what a loss leaves at each.
+pub fn worked_calls()
+    ensures calls { CallsOfWorks }
+    ensures kept { KeptBehindWorks }
+    ensures losses { LossesOfWorks }
 {}

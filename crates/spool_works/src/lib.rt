@@ -6,4 +6,4 @@ mod ended;
 mod laws;
 
 pub use ended::Ended;
-pub use laws::losses_are_found;
+pub use laws::{losses_are_found, worked_calls, works_are_updates};

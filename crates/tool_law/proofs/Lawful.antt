@@ -398,7 +398,7 @@ module _ (plan : EquipmentPlan) (fits : EquipmentPlanFits plan) where
       }
     where
       own : OwnView
-      own = new_own plan (new_ledger file.slots (first_in file.list) (length file.list))
+      own = new_own plan (new_ledger file.slots (first_in file) (length file.list))
 
       sound : IsSound plan file.slots own.ledger.stood own
       sound = record {
@@ -406,7 +406,7 @@ module _ (plan : EquipmentPlan) (fits : EquipmentPlanFits plan) where
         texts = All-nil (λ (one : GrantView). IsText one.body);
         traced = All-nil (λ (one : GrantView). IsText one.body);
         reports = All-nil (λ (one : ReportView). CanBeSent one.message);
-        ledger = new-good file.slots (first_in file.list) (length file.list);
+        ledger = new-good file.slots (first_in file) (length file.list);
       }
 
   pub starts-at : (file : SpoolFile) (least : ℕ) → AllCanBeSent file.list → least ≤ file.mark.value

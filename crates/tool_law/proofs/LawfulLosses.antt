@@ -1,13 +1,14 @@
 -- That the equipment keeps the law of an end wherever its power is lost, and so all of it: proofs, which stand here
 -- since an impl cites them.
-use Rattle.std.proofs.Common.{◌⊎◌, inl, inr, ◌≡◌, refl, sym, ap, subst, ◌∙◌, ◌+◌, arith, Bool, true, false, not, ℕ, ◌<◌, ◌≤◌, zero, suc, List, [], ◌∷◌, ◌++◌, All, length, map, Some, if◌then◌else◌, ◌&&◌}
+use Rattle.std.proofs.Common.{◌⊎◌, inl, inr, ◌≡◌, refl, sym, ap, subst, ◌∙◌, ◌+◌, arith, Bool, true, false, not, ℕ, ◌<◌}
+use Rattle.std.proofs.Common.{◌≤◌, List, [], ◌∷◌, ◌++◌, All, map, Some, if◌then◌else◌, ◌&&◌}
 use Rattle.std.proofs.Math.Nat.{le_trans}
 use Rattle.std.proofs.lemmas.List.Elements.{All-head, All-tail}
 use Rattle.disk_base.specs.declared.cut.CutChoice.{CutChoice}
+use Rattle.gem_spool.specs.Updates.{Left}
 use Rattle.gem_spool.specs.Standing.{Standing}
 use Rattle.gem_spool.specs.Works.{standing_after}
 use Rattle.gem_spool.specs.declared.works.Work.{Work}
-use Rattle.gem_spool.specs.declared.works.Work.TheVariants as work
 use Rattle.message_end.proofs.Fronts.{IsFirstOf, stops-first}
 use Rattle.message_end.specs.Core.{Went, and_then, at_first, step_in}
 use Rattle.message_end.specs.Core.Went.{Goes, Spent}
@@ -16,7 +17,6 @@ use Rattle.message_end.specs.Ends.{HasRestarted, HasStarted, Input, KeepsLaw, Lo
 use Rattle.message_end.specs.Own.{Has, drawn_in}
 use Rattle.message_end.specs.Parts.{after_parts}
 use Rattle.spool_slots.specs.File.{SpoolFile}
-use Rattle.spool_slots.specs.Losses.{file_left, gate_counts, names_spare}
 use Rattle.trace_log.specs.Commands.{ToolCommandFits}
 use Rattle.trace_log.specs.declared.commands.ToolCommand.{ToolCommand}
 use Rattle.trace_log.specs.Log.{Happening}
@@ -26,16 +26,18 @@ use Rattle.spool_works.specs.DiskWorks.{DiskWork, behind_change, up_to_change}
 use Rattle.tool_step.specs.Disk.{read_works, standing_in, takes_up, works_behind, works_of}
 use Rattle.spool_works.specs.DiskWorks.DiskWork.{Change, ReadOldest, Reserve}
 use Rattle.tool_step.specs.End.{machine}
-use Rattle.tool_step.specs.Equipment.{EquipmentView, act, begun_step, ended_step, is_marked_out, needs_numbers, parts_done, reserved, restarts, settled_went, starts}
+use Rattle.tool_step.specs.Equipment.{EquipmentView, act, begun_step, ended_step, is_marked_out, needs_numbers}
+use Rattle.tool_step.specs.Equipment.{parts_done, reserved, restarts, settled_went, starts}
 use Rattle.tool_law.proofs.Lawful.{IsGoodView, Loses, begun-good, lawful-so, starts-at, stops-are, stops-unended}
 use Rattle.tool_law.proofs.KeptSteps.{goes-on}
 use Rattle.tool_law.specs.Laws.{DidOf}
 use Rattle.tool_step.proofs.LossCalls.{AtEach, at-call, losses-counted}
 use Rattle.tool_step.proofs.StepFiles.{ended-file, parts-file, settled-mark}
+use Rattle.spool_works.proofs.EachLoss.{each-work}
 use Rattle.spool_works.proofs.LossCounts.{Each}
 use Rattle.tool_step.specs.Losses.{left_as}
 use Rattle.tool_law.specs.Sound.{AllCanBeSent, PutsGood}
-use Rattle.spool_works.specs.SpoolLosses.{Left, by_gate, closes, opens, purge_calls, work_calls}
+use Rattle.spool_works.specs.WorkLosses.{calls_at}
 use Rattle.tool_law.proofs.SpoolSound.{list-good}
 use Rattle.tool_step.specs.Step.{end_plan, first_parts}
 
@@ -63,49 +65,18 @@ module _ (was : SpoolFile) (last : ℕ) where
   abbrev pub LeavesWell : List Happening → Left → Type 0
   LeavesWell front left = (choice : CutChoice) → IsLeftWell was last front (left choice)
 
-  gate-well :
-      (front : List Happening) (means : ℕ → Bool) (done undone : Standing) → IsLeftWell was last front done.file
-      → IsLeftWell was last front undone.file → LeavesWell front (by_gate means done undone)
-  gate-well front means done undone is is_not choice = go (gate_counts choice means)
-    where
-      go : (counts : Bool) → IsLeftWell was last front (file_left counts done.file undone.file)
-      go true = is
-      go false = is_not
-
-  after-well :
+  work-well :
       (front : List Happening) (st : Standing) (one : Work) → PutsGood one → IsLeftWell was last front st.file
-      → IsLeftWell was last front (standing_after st one).file
-  after-well front st one good is =
-      record {
+      → Each (LeavesWell front) (calls_at st (Change one))
+  work-well front st one good is =
+      each-work (IsLeftWell was last front) st (Change one) is
+      (record { can = is.can; slots_are = is.slots_are; above = is.above; most = is.most })
+      (record {
         can = list-good st.next st.file.list one is.can good;
         slots_are = is.slots_are;
         above = is.above;
         most = is.most;
-      }
-
-  purge-well :
-      (front : List Happening) (left : ℕ) (st : Standing) → IsLeftWell was last front st.file
-      → Each (LeavesWell front) (purge_calls left st)
-  purge-well front zero st is = tt
-  purge-well front (suc left) st is =
-      let next = after-well front st work.DropOldest tt is in
-      let gate = gate-well front closes (standing_after st work.DropOldest) st next is in
-      (gate, (gate, purge-well front left (standing_after st work.DropOldest) next))
-
-  work-well :
-      (front : List Happening) (st : Standing) (one : Work) → PutsGood one → IsLeftWell was last front st.file
-      → Each (LeavesWell front) (work_calls st one)
-  work-well front st (work.Put stream function body) good is =
-      let gate =
-      gate-well front opens (standing_after st (work.Put stream function body)) st
-      (after-well front st (work.Put stream function body) good is) is
-      in
-      (λ choice. is, (λ choice. is, (gate, (gate, tt))))
-  work-well front st work.DropOldest good is =
-      let gate =
-      gate-well front closes (standing_after st work.DropOldest) st (after-well front st work.DropOldest tt is) is
-      in (gate, (gate, tt))
-  work-well front st work.Purge good is = purge-well front (length st.file.list) st is
+      })
 
   -- the messages can be sent, and the mark is high enough whatever was noted
   record IsHighEnough (file : SpoolFile) : Type 0 where
@@ -150,15 +121,13 @@ reserve-well :
     (s : EquipmentView) (works : List DiskWork) (notes : List Happening) → AllCanBeSent s.file.list
     → AtEach (LeavesWell s.file (s.file.mark.value + 4096)) (standing_in (reserved s)) [] works notes
     → AtEach (LeavesWell s.file (s.file.mark.value + 4096)) (standing_in s) [] (Reserve ∷ works) notes
-reserve-well s works notes can rest =
-    let same : IsLeftWell s.file (s.file.mark.value + 4096) [] s.file =
-    record { can = can; slots_are = refl; above = omega arith; most = inl refl } in
-    let more : IsLeftWell s.file (s.file.mark.value + 4096) [] (reserved s).file =
-    record { can = can; slots_are = refl; above = omega arith; most = inl refl } in
-    let gate =
-    gate-well s.file (s.file.mark.value + 4096) [] (names_spare s.file.mark) (standing_in (reserved s))
-    (standing_in s) more same in
-    ((λ choice. same, (λ choice. same, (λ choice. same, (gate, (gate, tt))))), rest)
+reserve-well s works notes can rest = (
+  each-work (IsLeftWell s.file (s.file.mark.value + 4096) []) (standing_in s) Reserve
+      (record { can = can; slots_are = refl; above = omega arith; most = inl refl })
+      (record { can = can; slots_are = refl; above = omega arith; most = inl refl })
+      (record { can = can; slots_are = refl; above = omega arith; most = inl refl }),
+  rest,
+)
 
 module _ (plan : EquipmentPlan) (fits : EquipmentPlanFits plan) where
   pub all-well :

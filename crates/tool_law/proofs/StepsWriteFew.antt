@@ -1,9 +1,9 @@
 -- That the calls of a step write few bytes.
-use Rattle.std.proofs.Common.{arith, ℕ, ◌&&◌, not, Bool, true, false, List, [], ◌∷◌, ◌++◌, All, map, if◌then◌else◌, ◌+◌, length}
+use Rattle.std.proofs.Common.{ℕ, ◌&&◌, not, Bool, true, false, List, [], ◌∷◌, ◌++◌, All, map, if◌then◌else◌}
 use Rattle.std.proofs.lemmas.List.Elements.{All-head, All-tail}
 use Rattle.gem_spool.specs.declared.works.Work.{Work}
 use Rattle.gem_spool.specs.declared.works.Work.TheVariants as work
-use Rattle.gem_spool.specs.Standing.{Standing, count_in}
+use Rattle.gem_spool.specs.Standing.{Standing}
 use Rattle.trace_log.specs.declared.commands.ToolCommand.{ToolCommand}
 use Rattle.trace_log.specs.Log.{Happening}
 use Rattle.message_end.specs.Core.{Went, step_in}
@@ -14,29 +14,14 @@ use Rattle.equipment_tables.specs.Plan.{EquipmentPlanFits}
 use Rattle.spool_works.specs.DiskWorks.{DiskWork, standing_behind}
 use Rattle.tool_step.specs.Disk.{read_works, reserve_works, standing_in, takes_up, works_of}
 use Rattle.spool_works.specs.DiskWorks.DiskWork.{Change, ReadOldest, Reserve}
-use Rattle.spool_works.specs.DiskCalls.{all_disk_calls, disk_calls, oldest_in}
+use Rattle.spool_works.specs.DiskCalls.{all_disk_calls, disk_calls}
 use Rattle.tool_step.specs.Equipment.{EquipmentView, begun_step, is_marked_out, needs_numbers}
 use Rattle.tool_law.proofs.Lawful.{IsGoodView, begun-good}
 use Rattle.tool_law.specs.Sound.{PutsGood}
 use Rattle.spool_works.specs.WritesFew.{WriteFew}
-use Rattle.spool_works.proofs.WritesFew.{few-both, few-none, purge-few, one-few}
+use Rattle.spool_works.proofs.WritesFew.{IsShort, few-both, few-none, work-few}
 
 -- ---- works
-
-abbrev IsShort : DiskWork → Type 0
-IsShort (Change one) = PutsGood one
-IsShort _ = Unit {0}
-
-work-few : (st : Standing) (one : DiskWork) → IsShort one → WriteFew (disk_calls st one)
-work-few st Reserve is = one-few st Reserve (omega arith) (omega arith)
-work-few st ReadOldest is = one-few st ReadOldest (omega arith) (omega arith)
-work-few st (Change (work.Put stream function body)) is =
-    let short = is.1 in
-    one-few st (Change (work.Put stream function body)) (omega (arith, short)) (omega (arith, short))
-work-few st (Change work.DropOldest) is =
-    one-few st (Change work.DropOldest) (omega arith) (omega arith)
-work-few st (Change work.Purge) is =
-    purge-few st.file.slots (oldest_in (count_in st)) (length st.file.list)
 
 abbrev AreShort : List DiskWork → Type 0
 AreShort [] = Unit {0}
@@ -62,10 +47,15 @@ reserve-short s = go (needs_numbers s && not (is_marked_out s.file.mark.value))
     go true = (tt, tt)
     go false = tt
 
+put-short : (one : Work) → PutsGood one → IsShort (Change one)
+put-short (work.Put stream function body) good = good.1
+put-short work.DropOldest good = tt
+put-short work.Purge good = tt
+
 changes-short : (works : List Work) → All PutsGood works → AreShort (map Change works)
 changes-short [] good = tt
 changes-short (one ∷ works) good =
-    (All-head PutsGood one works good, changes-short works (All-tail PutsGood one works good))
+    (put-short one (All-head PutsGood one works good), changes-short works (All-tail PutsGood one works good))
 
 read-short : (begun : Went EquipmentView Happening) → AreShort (read_works begun)
 read-short (Goes step) = go (takes_up step.next.node.own)

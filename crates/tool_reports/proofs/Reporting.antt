@@ -206,7 +206,7 @@ module _ (plan : EquipmentPlan) (fits : EquipmentPlanFits plan) (looked : Tables
       go true = so
       go false = record {
         holds =
-            starts-so other (new_ledger file.slots (first_in file.list) (length file.list)) (found_in file.list)
+            starts-so other (new_ledger file.slots (first_in file) (length file.list)) (found_in file.list)
             file.mark.value notes same so;
         good = record {
           own = record {
@@ -214,7 +214,7 @@ module _ (plan : EquipmentPlan) (fits : EquipmentPlanFits plan) (looked : Tables
             texts = All-nil (λ (one : GrantView). IsText one.body);
             traced = All-nil (λ (one : GrantView). IsText one.body);
             reports = All-nil (λ (one : ReportView). CanBeSent one.message);
-            ledger = new-good file.slots (first_in file.list) (length file.list);
+            ledger = new-good file.slots (first_in file) (length file.list);
           };
           list = can;
         };
@@ -288,7 +288,7 @@ module _ (plan : EquipmentPlan) (fits : EquipmentPlanFits plan) (looked : Tables
       (course_of (started_on plan file) machine meetings)
   course-so file can [] = record {
     holds =
-        starts-so plan (new_ledger file.slots (first_in file.list) (length file.list)) (found_in file.list)
+        starts-so plan (new_ledger file.slots (first_in file) (length file.list)) (found_in file.list)
         file.mark.value [] refl
         (record { reported = tt; none_due = refl });
     good = record {
@@ -297,7 +297,7 @@ module _ (plan : EquipmentPlan) (fits : EquipmentPlanFits plan) (looked : Tables
         texts = All-nil (λ (one : GrantView). IsText one.body);
         traced = All-nil (λ (one : GrantView). IsText one.body);
         reports = All-nil (λ (one : ReportView). CanBeSent one.message);
-        ledger = new-good file.slots (first_in file.list) (length file.list);
+        ledger = new-good file.slots (first_in file) (length file.list);
       };
       list = can;
     };

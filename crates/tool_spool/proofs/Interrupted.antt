@@ -1,10 +1,14 @@
 -- What a loss of power leaves of the list is what a start may find of it, at whichever call of a work it comes.
-use Rattle.std.proofs.Common.{◌≡◌, refl, sym, ap, subst, ◌∙◌, arith, zero, suc, ◌+◌, ◌-◌, ◌^◌, ◌≤◌, ◌<◌, ◌==◌, nat_le, nat_lt, Bool, true, false, ℕ, List, [], ◌∷◌, ◌++◌, append-nil, append_assoc, drop, length, length-append, map, Option, if◌then◌else◌}
+use Rattle.std.proofs.Common.{◌≡◌, refl, sym, ap, subst, ◌∙◌, arith, ◌+◌, ◌-◌, ◌^◌, ◌≤◌, ◌<◌, ◌==◌, nat_le, nat_lt}
+use Rattle.std.proofs.Common.{Bool, true, false, ℕ, List, [], ◌∷◌, ◌++◌, append-nil, append_assoc, drop, length}
+use Rattle.std.proofs.Common.{length-append, map, Option, if◌then◌else◌}
 use Rattle.std.proofs.lemmas.Bool.Decides.{nat_tests}
 use Rattle.disk_base.specs.declared.cut.CutChoice.{CutChoice}
+use Rattle.gem_spool.specs.Updates.{Left}
 use Rattle.gem_spool.specs.Spool.{room_in}
 use Rattle.gem_spool.specs.Standing.{Standing, count_in}
-use Rattle.gem_spool.specs.Works.{AreDue, IsDue, len_after, list_after, lists_after, next_after, reserved, standing_after}
+use Rattle.gem_spool.specs.Works.{AreDue, IsDue, count_after, floor_above, len_after, list_after, lists_after}
+use Rattle.gem_spool.specs.Works.{next_after, reserved, standing_after, standings_after, unstale}
 use Rattle.gem_spool.specs.declared.spool.Room.TheVariants as room
 use Rattle.gem_spool.specs.declared.works.Work.{Work}
 use Rattle.gem_spool.specs.declared.works.Work.TheVariants as work
@@ -13,7 +17,6 @@ use Rattle.message_end.specs.Core.Went.{Goes, Spent}
 use Rattle.message_end.specs.Course.{noted_behind}
 use Rattle.spool_law.specs.Shelf.{IsFoundOf, Shelf, shelf_of}
 use Rattle.spool_slots.specs.File.{SpoolFile}
-use Rattle.spool_slots.specs.Losses.{file_left, gate_counts, names_spare}
 use Rattle.spool_slots.specs.Run.{IsRunFrom}
 use Rattle.spool_slots.specs.Slot.{Message}
 use Rattle.trace_log.specs.Log.{Happening}
@@ -25,24 +28,26 @@ use Rattle.tool_step.specs.Equipment.{EquipmentView}
 use Rattle.spool_works.specs.Found.{found_in}
 use Rattle.tool_law.proofs.Lawful.{split-change}
 use Rattle.tool_step.proofs.LossCalls.{AtEach}
+use Rattle.spool_works.proofs.EachLoss.{each-work}
 use Rattle.spool_works.proofs.LossCounts.{Each}
-use Rattle.spool_works.specs.SpoolLosses.{Left, by_gate, closes, opens, purge_calls, work_calls}
 use Rattle.tool_spool.proofs.Shelved.{run-last, run-rest}
 use Rattle.message_end.proofs.Growing.{behind-both}
 use Rattle.tool_law.proofs.WorkLines.{Walks}
-use Rattle.spool_works.specs.WorkLosses.{storing_at}
+use Rattle.spool_works.specs.WorkLosses.{calls_at, storing_at}
 use Rattle.spool_works.proofs.FoundLosses.{length-drop-one, Leaves, each-call}
 use Rattle.spool_ledger.proofs.Keeping.{tests_fit}
 
 -- ---- numbers and room
 
--- the numbers rise one by one up to the next one, and there are so many slots, and no more messages
+-- the numbers rise one by one up to the next one, and there are so many slots, and no more messages; the floor has the
+-- same bound as the numbers
 pub record StandsWell (slots : ℕ) (st : Standing) : Type 0 where
   pub first : ℕ
   pub run : IsRunFrom first st.file.list
   pub next_is : first + length st.file.list ≡ st.next
   pub room : length st.file.list ≤ slots
   pub bound : st.next ≤ 2 ^ 63 + 65535
+  pub floor : st.file.floor.value ≤ 2 ^ 63 + 65535
   pub slots_are : st.file.slots ≡ slots
 
 -- so it is of a file, whatever comes behind its numbers
@@ -51,6 +56,7 @@ pub record IsWell (slots : ℕ) (file : SpoolFile) : Type 0 where
   pub run : IsRunFrom first file.list
   pub room : length file.list ≤ slots
   pub bound : first + length file.list ≤ 2 ^ 63 + 65535
+  pub floor : file.floor.value ≤ 2 ^ 63 + 65535
   pub slots_are : file.slots ≡ slots
 
 module _ (slots : ℕ) where
@@ -60,6 +66,7 @@ module _ (slots : ℕ) where
     run = is.run;
     room = is.room;
     bound = let next = is.next_is in let bound = is.bound in omega (arith, next, bound);
+    floor = is.floor;
     slots_are = is.slots_are;
   }
 
@@ -76,6 +83,7 @@ module _ (slots : ℕ) where
         let less : length st.file.list + 1 ≤ st.file.slots = grind (arith, nat_tests, free, all, most) in
         omega (arith, long, less, all);
     bound = let few : st.next < 2 ^ 63 = grind (arith, nat_tests, spent) in omega (arith, few);
+    floor = is.floor;
     slots_are = is.slots_are;
   }
     where
@@ -100,6 +108,7 @@ module _ (slots : ℕ) where
     next_is = let next = is.next_is in omega (arith, next, less, some);
     room = let most = is.room in omega (arith, most, less);
     bound = is.bound;
+    floor = is.floor;
     slots_are = is.slots_are;
   }
     where
@@ -113,8 +122,13 @@ module _ (slots : ℕ) where
     next_is = omega arith;
     room = omega arith;
     bound = is.bound;
+    floor = above st.file.list;
     slots_are = is.slots_are;
   }
+    where
+      above : (list : List Message) → (floor_above st.next list st.file.floor).value ≤ 2 ^ 63 + 65535
+      above [] = is.floor
+      above (message ∷ list) = is.bound
 
   pub after-reserve : (st : Standing) → StandsWell slots st → StandsWell slots (reserved st)
   after-reserve st is = record {
@@ -123,6 +137,7 @@ module _ (slots : ℕ) where
     next_is = is.next_is;
     room = is.room;
     bound = is.bound;
+    floor = is.floor;
     slots_are = is.slots_are;
   }
 
@@ -133,39 +148,44 @@ module _ (slots : ℕ) where
   after-well st work.DropOldest due is = after-drop st due is
   after-well st work.Purge due is = after-purge st is
 
+  -- one more work of those that are due
+  pub due-behind : (st : Standing) (one : Work) (works : List Work) → AreDue (count_after (count_in st) one) works
+      → AreDue (count_in (standing_after st one)) works
+  due-behind st one works due =
+      subst (λ (n : ℕ). AreDue (record { slots = st.file.slots; next = next_after st.next one; len = n }) works)
+      (sym (len-is one)) due
+    where
+      len-is : (one : Work) → length (list_after st.next st.file.list one) ≡ len_after (length st.file.list) one
+      len-is (work.Put stream function body) = length-append st.file.list _
+      len-is work.DropOldest = length-drop-one st.file.list
+      len-is work.Purge = refl
+
+  pub all-well : (works : List Work) (st : Standing) → AreDue (count_in st) works → StandsWell slots st
+      → StandsWell slots (standings_after st works)
+  all-well [] st due is = is
+  all-well (one ∷ works) st due is =
+      all-well works (standing_after st one) (due-behind st one works due.1) (after-well st one due.0 is)
+
   abbrev WellLeft : Left → Type 0
   WellLeft left = (choice : CutChoice) → IsWell slots (left choice)
 
-  gate-well :
-      (means : ℕ → Bool) (done undone : Standing) → StandsWell slots done → StandsWell slots undone
-      → WellLeft (by_gate means done undone)
-  gate-well means done undone is is_not choice = go (gate_counts choice means)
-    where
-      go : (counts : Bool) → IsWell slots (file_left counts done.file undone.file)
-      go true = file-well done is
-      go false = file-well undone is_not
+  shut-well : (st : Standing) → StandsWell slots st → IsWell slots (unstale st).file
+  shut-well st is =
+      let well = file-well st is in
+      record {
+        first = well.first;
+        run = well.run;
+        room = well.room;
+        bound = well.bound;
+        floor = well.floor;
+        slots_are = well.slots_are;
+      }
 
-  purge-well : (left : ℕ) (st : Standing) → left ≤ length st.file.list → StandsWell slots st
-      → Each WellLeft (purge_calls left st)
-  purge-well zero st most is = tt
-  purge-well (suc left) st most is =
-      let next = after-drop st (omega (arith, most)) is in
-      let gate = gate-well closes (standing_after st work.DropOldest) st next is in
-      let less = length-drop-one st.file.list in
-      (gate, (gate, purge-well left (standing_after st work.DropOldest) (omega (arith, most, less)) next))
-
-  work-well :
-      (st : Standing) (one : Work) → IsDue (count_in st) one → StandsWell slots st → Each WellLeft (work_calls st one)
-  work-well st (work.Put stream function body) due is =
-      let gate =
-      gate-well opens (standing_after st (work.Put stream function body)) st
-      (after-well st (work.Put stream function body) due is) is
-      in
-      (λ choice. file-well st is, (λ choice. file-well st is, (gate, (gate, tt))))
-  work-well st work.DropOldest due is =
-      let gate = gate-well closes (standing_after st work.DropOldest) st (after-drop st due is) is in
-      (gate, (gate, tt))
-  work-well st work.Purge due is = purge-well (length st.file.list) st (omega arith) is
+  call-well :
+      (st : Standing) (one : DiskWork) → StandsWell slots st → StandsWell slots (standing_behind st one)
+      → Each WellLeft (calls_at st one)
+  call-well st one is after =
+      each-work (IsWell slots) st one (file-well st is) (shut-well st is) (file-well (standing_behind st one) after)
 
   -- ---- what is found behind what was noted
 
@@ -243,12 +263,12 @@ module _ (slots : ℕ) where
         → AtEach FoundAt st front (map Change works ++ read_works went) lines
     works-found [] went st front lines due is walks stands = read-found went st front lines stands is
     works-found (one ∷ works) went st front lines due is walks stands = (
-      subst (λ (ns : List Happening). Each (FoundIn (shelf_of ns)) (work_calls st one)) (sym here)
-          (each-found st.file.list (storing_at st.next (Change one)) shelf (work_calls st one) walks.1.stands
-          walks.1.storing (each-call st (Change one) shelf.leaving walks.1.leaving) (work-well st one due.0 is)),
+      subst (λ (ns : List Happening). Each (FoundIn (shelf_of ns)) (calls_at st (Change one))) (sym here)
+          (each-found st.file.list (storing_at st.next (Change one)) shelf (calls_at st (Change one)) walks.1.stands
+          walks.1.storing (each-call st (Change one) shelf.leaving walks.1.leaving)
+          (call-well st (Change one) is (after-well st one due.0 is))),
       works-found works went (standing_after st one) (front ++ up_to_change lines) (behind_change lines)
-          (subst (λ (n : ℕ). AreDue (record { slots = st.file.slots; next = next_after st.next one; len = n }) works)
-          (sym (len-is st one)) due.1)
+          (due-behind st one works due.1)
           (after-well st one due.0 is)
           (subst
           (λ (ns : List Happening).
@@ -272,12 +292,6 @@ module _ (slots : ℕ) where
             ap (λ (ns : List Happening). front ++ ns) (split-change lines)
             ∙ sym (append_assoc front (up_to_change lines) (behind_change lines))
 
-        len-is : (st : Standing) (one : Work)
-            → length (list_after st.next st.file.list one) ≡ len_after (length st.file.list) one
-        len-is st (work.Put stream function body) = length-append st.file.list _
-        len-is st work.DropOldest = length-drop-one st.file.list
-        len-is st work.Purge = refl
-
     -- where system bytes are reserved first
     pub reserve-found :
         (st : Standing) (works : List DiskWork) (lines : List Happening)
@@ -285,11 +299,8 @@ module _ (slots : ℕ) where
         → AtEach FoundAt (standing_behind st Reserve) [] works lines → AtEach FoundAt st [] (Reserve ∷ works) lines
     reserve-found st works lines stands is rest =
         let same = rest-found (shelf_of base) st stands is in
-        let more = rest-found (shelf_of base) (reserved st) stands (after-reserve st is) in
-        let gate = λ (choice : CutChoice). gate-found (gate_counts choice (names_spare st.file.mark)) more same in
-        ((λ choice. same, (λ choice. same, (λ choice. same, (gate, (gate, tt))))), rest)
-      where
-        gate-found : (counts : Bool) → IsFoundAt (shelf_of base) (reserved st).file → IsFoundAt (shelf_of base) st.file
-            → IsFoundAt (shelf_of base) (file_left counts (reserved st).file st.file)
-        gate-found true done undone = done
-        gate-found false done undone = undone
+        let more = rest-found (shelf_of base) (reserved st) stands (after-reserve st is) in (
+          each-work (IsFoundAt (shelf_of base)) st Reserve same
+              (record { found = same.found; well = shut-well st is }) more,
+          rest,
+        )

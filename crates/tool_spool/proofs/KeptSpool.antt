@@ -1,12 +1,14 @@
 -- That the spool is kept, over all starts.
-use Rattle.std.proofs.Common.{◌≡◌, refl, sym, ap, subst, ◌∙◌, inl, inr, arith, ◌<◌, ◌≤◌, ◌+◌, ◌^◌, ◌&&◌, not, Bool, true, false, ℕ, List, [], ◌∷◌, ◌++◌, length, Option, Some, None, if◌then◌else◌}
+use Rattle.std.proofs.Common.{◌≡◌, refl, sym, ap, subst, ◌∙◌, inl, inr, arith, ◌<◌, ◌≤◌, ◌+◌, ◌^◌, ◌&&◌, not, Bool}
+use Rattle.std.proofs.Common.{true, false, ℕ, List, [], ◌∷◌, ◌++◌, length, Option, Some, None, if◌then◌else◌}
 use Rattle.std.proofs.lemmas.List.Elements.{All-nil}
 use Rattle.trace_log.specs.declared.commands.ToolCommand.{ToolCommand}
 use Rattle.trace_log.specs.Log.{Happening}
 use Rattle.message_end.specs.Core.{Went, at_first, step_in, EndView, noted}
 use Rattle.transact.specs.Numbers.{numbers_from}
 use Rattle.message_end.specs.Core.Went.{Goes, Spent}
-use Rattle.message_end.specs.Course.{Course, Meeting, broken_at, course_of, filled_at, noted_behind, notes_of, went_on, with_meeting}
+use Rattle.message_end.specs.Course.{Course, Meeting, broken_at, course_of, filled_at, noted_behind, notes_of, went_on}
+use Rattle.message_end.specs.Course.{with_meeting}
 use Rattle.message_end.specs.Course.Course.{Reached, Stopped}
 use Rattle.message_end.specs.Course.Meeting.{Acts, Breaks, Fills, LosesPower, Restarts, Writes}
 use Rattle.message_end.specs.Ends.{Input, IsFront, Loss, call_of}
@@ -22,14 +24,15 @@ use Rattle.spool_slots.specs.Format.{empty_file}
 use Rattle.spool_slots.specs.Run.{IsRunFrom}
 use Rattle.spool_slots.specs.Slot.{Message as Put}
 use Rattle.gem_spool.specs.Standing.{count_in}
-use Rattle.gem_spool.specs.Works.{AreDue, counts_after, lists_after, reserved as marked}
+use Rattle.gem_spool.specs.Works.{AreDue, counts_after, lists_after, reserved as marked, standings_after}
 use Rattle.gem_spool.specs.declared.count.Count.{Count}
 use Rattle.gem_spool.specs.declared.works.Work.{Work}
 use Rattle.equipment_tables.specs.declared.plan.EquipmentPlan.{EquipmentPlan}
 use Rattle.equipment_tables.specs.Laws.{TablesAreLookedBackFor}
 use Rattle.equipment_tables.specs.Plan.{EquipmentPlanFits}
 use Rattle.tool_step.specs.End.{machine}
-use Rattle.tool_step.specs.Equipment.{EquipmentView, act, begun_step, is_marked_out, needs_numbers, new_own, restarts, settled_list, started_on}
+use Rattle.tool_step.specs.Equipment.{EquipmentView, act, begun_step, is_marked_out, needs_numbers, new_own, restarts}
+use Rattle.tool_step.specs.Equipment.{settled_list, started_on}
 use Rattle.spool_works.specs.Found.{first_in, found_in, spooled_of}
 use Rattle.tool_step.specs.Disk.{owed_in, standing_in, works_behind, works_of as step_works}
 use Rattle.spool_works.specs.DiskWorks.DiskWork.{Reserve}
@@ -38,18 +41,19 @@ use Rattle.tool_step.proofs.LossCalls.{AtEach, IsAtCall, at-call, losses-counted
 use Rattle.spool_works.proofs.LossCounts.{has-call}
 use Rattle.tool_step.specs.Losses.{losses}
 use Rattle.tool_law.proofs.Lawful.{IsGoodView, begun-stood, fronts-are}
-use Rattle.tool_spool.proofs.FromStarts.{KeepsOn, begins-course, kept-before, kept-empty, kept-from, left-in-steps, room-used, some-behind, some-kept}
-use Rattle.tool_spool.proofs.PairedLines.{AreTold}
+use Rattle.tool_spool.proofs.FromStarts.{KeepsOn, begins-course, kept-before, kept-empty, kept-from, left-in-steps}
+use Rattle.tool_spool.proofs.FromStarts.{room-used, some-behind, some-kept}
 use Rattle.tool_spool.proofs.UsedRoom.{fronts-used}
-use Rattle.tool_spool.proofs.Interrupted.{FoundAt, IsFoundAt, StandsWell, WhereGoes, after-reserve, reserve-found, where-as, works-found}
+use Rattle.tool_spool.proofs.Interrupted.{FoundAt, IsFoundAt, StandsWell, WhereGoes, after-reserve, all-well}
+use Rattle.tool_spool.proofs.Interrupted.{reserve-found, where-as, works-found}
 use Rattle.tool_law.specs.Sound.{CanBeSent}
 use Rattle.tool_spool.specs.InPairs.{AreInPairs, ArePairsOfStep, TellsWorks, WorksAreInPairs, changes_in}
 use Rattle.tool_spool.specs.LeavesInStep.{LeaveInTheirSteps, MessagesLeaveInStep}
 use Rattle.tool_spool.specs.MadeRoom.{IsRoomUsed, LeavesNoRoom, OverwritesForPuts, UsesRoom}
 use Rattle.tool_spool.specs.SpoolKept.{KeepsSpoolFrom, MayHold, SpoolIsKept, SpoolIsKeptFrom, policy_of}
-use Rattle.tool_step.specs.Step.{begun, end_plan}
+use Rattle.tool_step.specs.Step.{end_plan}
 use Rattle.tool_step.specs.declared.kind.Kind.{Kind}
-use Rattle.tool_step.proofs.StepFiles.{act-slots}
+use Rattle.tool_step.proofs.StepFiles.{act-slots, begun-file, ended-file}
 use Rattle.tool_reports.proofs.QuietReports.{Holds}
 use Rattle.tool_reports.proofs.Reporting.{IsCourseSo as IsReported, course-so as course-reported}
 use Rattle.tool_spool.proofs.ShelvedTurns.{Shelves}
@@ -57,7 +61,8 @@ use Rattle.message_end.proofs.Growing.{behind-both}
 use Rattle.tool_law.proofs.WorkLines.{Walks, same-lines}
 use Rattle.message_end.proofs.Parts.{OnEither}
 use Rattle.tool_spool.proofs.TakenTurns.{full-so}
-use Rattle.tool_spool.proofs.KeptStarts.{rebased, begun-both, IsBegunSo, begun-so, IsDone, IsKeptFile, step-both, step-lines, first-run, first-bound, finds-all, started-shelves}
+use Rattle.tool_spool.proofs.KeptStarts.{rebased, begun-both, IsBegunSo, begun-so, IsDone, IsKeptFile, step-both}
+use Rattle.tool_spool.proofs.KeptStarts.{step-lines, first-run, first-bound, finds-all, started-shelves}
 
 module _ (plan : EquipmentPlan) (fits : EquipmentPlanFits plan) (looked : TablesAreLookedBackFor) (slots : ℕ) where
   -- ---- over all starts
@@ -66,6 +71,7 @@ module _ (plan : EquipmentPlan) (fits : EquipmentPlanFits plan) (looked : Tables
     pub shelves : Shelves plan slots s.file.list notes notes s.node.own s.node.core notes
     pub none : s.node.own.ledger.works ≡ []
     pub slots_are : s.file.slots ≡ slots
+    pub floor : s.file.floor.value ≤ 2 ^ 63 + 65535
 
   abbrev pub IsCourseKept : Course EquipmentView → Type 0
   IsCourseKept (Reached s notes) = IsSpoolSo s notes
@@ -74,16 +80,18 @@ module _ (plan : EquipmentPlan) (fits : EquipmentPlanFits plan) (looked : Tables
   went-so :
       (said : List ToolCommand) (before : List Happening) (went : Went EquipmentView Happening)
       → OnEither ((IsDone plan fits looked slots) said before) ((IsKeptFile plan fits looked slots) before) went
-      → (step_in went).next.file.slots ≡ slots → IsCourseKept (went_on went before)
-  went-so said before (Goes step) at same = record {
+      → (step_in went).next.file.slots ≡ slots → (step_in went).next.file.floor.value ≤ 2 ^ 63 + 65535
+      → IsCourseKept (went_on went before)
+  went-so said before (Goes step) at same low = record {
     shelves =
         (rebased plan fits looked slots) step.next.file.list at.base before (noted_behind step.notes before)
         step.next.node.own step.next.node.core
         (noted_behind step.notes before) at.none at.both.1;
     none = at.none;
     slots_are = same;
+    floor = low;
   }
-  went-so said before (Spent step) at same = at
+  went-so said before (Spent step) at same low = at
 
   -- the list as the file has it
   file-list : (v : LedgerView) (list : List Put) → v.works ≡ [] → settled_list v list ≡ list
@@ -93,10 +101,10 @@ module _ (plan : EquipmentPlan) (fits : EquipmentPlanFits plan) (looked : Tables
     started-so :
         (other : EquipmentPlan) (file : SpoolFile) (notes : List Happening) → other ≡ plan → file.slots ≡ slots
         → KeepsOn (policy_of plan slots) (Happening.EquipmentStarted (found_in file.list) file.mark.value ∷ notes)
-        → IsRunFrom (first_in file.list) file.list → length file.list ≤ slots
-        → first_in file.list + length file.list ≤ 2 ^ 63 + 65535
+        → IsRunFrom (first_in file) file.list → length file.list ≤ slots
+        → first_in file + length file.list ≤ 2 ^ 63 + 65535 → file.floor.value ≤ 2 ^ 63 + 65535
         → IsSpoolSo (started_on other file).next (noted_behind (started_on other file).notes notes)
-    started-so other file notes same all kept run room bound =
+    started-so other file notes same all kept run room bound low =
         subst
         (λ (p : EquipmentPlan). IsSpoolSo (started_on p file).next (noted_behind (started_on p file).notes notes))
         (sym same)
@@ -105,11 +113,12 @@ module _ (plan : EquipmentPlan) (fits : EquipmentPlanFits plan) (looked : Tables
               subst
               (λ (n : ℕ).
               Shelves plan slots file.list started started
-              (new_own plan (new_ledger n (first_in file.list) (length file.list))) core started) (sym all)
-              ((started-shelves plan fits looked slots) file.list file.mark.value started notes some most kept run room
-              bound);
+              (new_own plan (new_ledger n (first_in file) (length file.list))) core started) (sym all)
+              ((started-shelves plan fits looked slots) file.list (first_in file) file.mark.value started notes some
+              most kept run room bound);
           none = refl;
           slots_are = all;
+          floor = low;
         })
       where
         started : List Happening
@@ -127,35 +136,32 @@ module _ (plan : EquipmentPlan) (fits : EquipmentPlanFits plan) (looked : Tables
           so.none (full-so plan slots s.file.list notes notes s.node.own what (at_first s.node.core) other so.shelves);
       none = so.none;
       slots_are = so.slots_are;
+      floor = so.floor;
     }
 
     -- ---- power is lost at a call of the disk
 
-    -- all that is noted in a step up to its works keeps the law, and what is left at each call is what a start may find
-    lost-so :
-        (said : List ToolCommand) (before : List Happening) (input : Input ToolCommand) (now : ℕ) (s : EquipmentView)
-        → Holds plan said s.node.own s.node.core.drawn before → IsGoodView plan fits s → IsSpoolSo s before
-        → KeepsOn (policy_of plan slots) (noted_behind (step_in (begun_step s input now)).notes before)
-        × AtEach (FoundAt slots before) (standing_in s) [] (step_works s input now)
-        (step_in (begun_step s input now)).notes
-    lost-so said before input now s holds good so =
-        (begun.kept, go (needs_numbers s && not (is_marked_out s.file.mark.value)))
+    module _ (said : List ToolCommand) (before : List Happening) (input : Input ToolCommand) (now : ℕ)
+        (s : EquipmentView) (holds : Holds plan said s.node.own s.node.core.drawn before)
+        (good : IsGoodView plan fits s) (so : IsSpoolSo s before)
       where
-        went : Went EquipmentView Happening
+        abbrev went : Went EquipmentView Happening
         went = begun_step s input now
 
-        notes : List Happening
+        abbrev notes : List Happening
         notes = (step_in went).notes
 
         -- the ledger as the step begins, and at its works
-        w : LedgerView
+        abbrev w : LedgerView
         w = s.node.own.ledger
 
-        v : LedgerView
+        abbrev v : LedgerView
         v = (step_in went).next.node.own.ledger
 
-        begun : (IsBegunSo plan fits looked slots) before went
-        begun = (begun-so plan fits looked slots) (with_command input said) before went ((begun-both plan fits looked slots) said before input now s holds so.shelves)
+        begun-is : (IsBegunSo plan fits looked slots) before went
+        begun-is =
+            (begun-so plan fits looked slots) (with_command input said) before went
+            ((begun-both plan fits looked slots) said before input now s holds so.shelves)
 
         same : settled_list w s.file.list ≡ s.file.list
         same = file-list w s.file.list so.none
@@ -171,6 +177,7 @@ module _ (plan : EquipmentPlan) (fits : EquipmentPlanFits plan) (looked : Tables
           room =
               let is = so.shelves.is.room in let all = so.shelves.all in let l = long in omega (arith, is, all, l);
           bound = so.shelves.is.bound;
+          floor = so.floor;
           slots_are = so.slots_are;
         }
 
@@ -196,16 +203,16 @@ module _ (plan : EquipmentPlan) (fits : EquipmentPlanFits plan) (looked : Tables
             (subst (λ (n : ℕ). AreDue (record { slots = slots; next = next_of w; len = n }) v.works)
             (ap (λ (at : Stand). at.len) stays.1 ∙ ap (λ (c : Count). c.len) stood-is ∙ sym long)
             (subst (λ (n : ℕ). AreDue (record { slots = slots; next = n; len = v.stood.len }) v.works) next-is
-            begun.due))
+            begun-is.due))
 
         walks : Walks (next_of w) s.file.list before v.works notes
         walks =
             subst (λ (ls : List Happening). Walks (next_of w) s.file.list before v.works ls)
-            (sym (same-lines notes begun.lines.lines before begun.lines.noted))
-            (subst (λ (list : List Put). Walks (next_of w) list before v.works begun.lines.lines) stays.0
+            (sym (same-lines notes begun-is.lines.lines before begun-is.lines.noted))
+            (subst (λ (list : List Put). Walks (next_of w) list before v.works begun-is.lines.lines) stays.0
             (subst
-            (λ (n : ℕ). Walks n (step_in went).next.file.list before v.works begun.lines.lines) next-is
-            begun.lines.walks))
+            (λ (n : ℕ). Walks n (step_in went).next.file.list before v.works begun-is.lines.lines) next-is
+            begun-is.lines.walks))
 
         ended : WhereGoes slots before went
             ((shelf_of (noted_behind notes before)).stands ≡ found_in (lists_after (next_of w) s.file.list v.works))
@@ -214,17 +221,57 @@ module _ (plan : EquipmentPlan) (fits : EquipmentPlanFits plan) (looked : Tables
             (λ is.
             is ∙ ap (λ (n : ℕ). found_in (lists_after n (step_in went).next.file.list v.works)) next-is
             ∙ ap (λ (list : List Put). found_in (lists_after (next_of w) list v.works)) stays.0)
-            begun.stands
+            begun-is.stands
 
-        go : (reserves : Bool)
-            → AtEach (FoundAt slots before) (standing_in s) []
-            ((if reserves then Reserve ∷ [] else []) ++ works_behind went) notes
-        go true =
-            reserve-found slots before (standing_in s) (works_behind went) notes stands well
-            (works-found slots before v.works went (marked (standing_in s)) [] notes due
-            (after-reserve slots (standing_in s) well) walks ended)
-        go false =
-            works-found slots before v.works went (standing_in s) [] notes due well walks ended
+        -- all that is noted in a step up to its works keeps the law, and what is left at each call is what a start may
+        -- find
+        lost-so : KeepsOn (policy_of plan slots) (noted_behind notes before)
+            × AtEach (FoundAt slots before) (standing_in s) [] (step_works s input now) notes
+        lost-so = (begun-is.kept, go (needs_numbers s && not (is_marked_out s.file.mark.value)))
+          where
+            go : (reserves : Bool)
+                → AtEach (FoundAt slots before) (standing_in s) []
+                ((if reserves then Reserve ∷ [] else []) ++ works_behind went) notes
+            go true =
+                reserve-found slots before (standing_in s) (works_behind went) notes stands well
+                (works-found slots before v.works went (marked (standing_in s)) [] notes due
+                (after-reserve slots (standing_in s) well) walks ended)
+            go false =
+                works-found slots before v.works went (standing_in s) [] notes due well walks ended
+
+        -- the works leave the spool well, whether system bytes were reserved before them or not
+        abbrev EndsWell : SpoolFile → Type 0
+        EndsWell file = StandsWell slots (standings_after (record { next = next_of w; file = file }) v.works)
+
+        floor-so : (step_in (act s input now)).next.file.floor.value ≤ 2 ^ 63 + 65535
+        floor-so =
+            subst (λ (file : SpoolFile). file.floor.value ≤ 2 ^ 63 + 65535) (sym (ended-file went now))
+            (subst
+            (λ (n : ℕ).
+            (standings_after (record { next = n; file = (step_in went).next.file }) v.works).file.floor.value
+            ≤ 2 ^ 63 + 65535)
+            (sym next-is)
+            (begun-file EndsWell s input now (all-well slots v.works (standing_in s) due well)
+            (all-well slots v.works (marked (standing_in s)) due (after-reserve slots (standing_in s) well))).floor)
+
+        -- the lines of a step up to its works tell of these: each work stands between its two lines
+        told-so : AreInPairs (standing_in s).next s.file.list v.works (changes_in notes)
+        told-so =
+            subst (λ (lines : List Happening). AreInPairs (next_of w) s.file.list v.works (changes_in lines))
+            (sym (same-lines notes begun-is.told.lines before begun-is.told.noted))
+            (subst (λ (list : List Put). AreInPairs (next_of w) list v.works (changes_in begun-is.told.lines)) stays.0
+            (subst
+            (λ (n : ℕ). AreInPairs n (step_in went).next.file.list v.works (changes_in begun-is.told.lines)) next-is
+            begun-is.told.pairs))
+
+        -- and so do the lines of all of it
+        pairs-of-step : ArePairsOfStep s input now
+        pairs-of-step = record {
+          by_then = told-so;
+          in_all =
+              subst (AreInPairs (standing_in s).next s.file.list (owed_in (begun_step s input now)))
+              (sym ((step-lines plan fits looked slots) said before input now s holds so.shelves good)) told-so;
+        }
 
     -- so do those at a call of the disk
     kept-at-call :
@@ -314,9 +361,11 @@ module _ (plan : EquipmentPlan) (fits : EquipmentPlanFits plan) (looked : Tables
             started-so s.node.own.plan file (Happening.Power ∷ noted_behind loss.front notes) holds.plan_is
             is-found.well.slots_are
             (inr (is-found.found, inl tt, tt, inr (tt, inl used, tt, kept)))
-            ((first-run plan fits looked slots) is-found.well.first file.list is-found.well.run) is-found.well.room
-            ((first-bound plan fits looked slots) is-found.well.first (2 ^ 63 + 65535) file.list is-found.well.run
-            is-found.well.bound)
+            ((first-run plan fits looked slots) file.floor.value is-found.well.first file.list is-found.well.run)
+            is-found.well.room
+            ((first-bound plan fits looked slots) file.floor.value is-found.well.first (2 ^ 63 + 65535) file.list
+            is-found.well.run is-found.well.bound is-found.well.floor)
+            is-found.well.floor
 
     meeting-so :
         (meeting : Meeting ToolCommand) (said : List ToolCommand) (course : Course EquipmentView)
@@ -326,7 +375,7 @@ module _ (plan : EquipmentPlan) (fits : EquipmentPlanFits plan) (looked : Tables
     meeting-so (Acts input now) said (Reached s notes) reported so =
         went-so (with_command input said) notes (act s input now)
         ((step-both plan fits looked slots) said notes input now s reported.holds so.shelves reported.good)
-        (act-slots s input now ∙ so.slots_are)
+        (act-slots s input now ∙ so.slots_are) (floor-so said notes input now s reported.holds reported.good so)
     meeting-so (Restarts now) said (Reached s notes) reported so = go (is_marked_out s.file.mark.value)
       where
         v : LedgerView
@@ -363,8 +412,9 @@ module _ (plan : EquipmentPlan) (fits : EquipmentPlanFits plan) (looked : Tables
               tt,
               so.shelves.shelved.kept,
             ))
-            ((first-run plan fits looked slots) v.first s.file.list run) room
-            ((first-bound plan fits looked slots) v.first (2 ^ 63 + 65535) s.file.list run bound)
+            ((first-run plan fits looked slots) s.file.floor.value v.first s.file.list run) room
+            ((first-bound plan fits looked slots) s.file.floor.value v.first (2 ^ 63 + 65535) s.file.list run bound
+            so.floor) so.floor
     meeting-so (Writes characters) said (Reached s notes) reported so =
         noted-so s notes (Happening.Wrote characters) refl so
     meeting-so LosesPower said (Reached s notes) reported so = noted-so s notes Happening.Power refl so
@@ -374,70 +424,13 @@ module _ (plan : EquipmentPlan) (fits : EquipmentPlanFits plan) (looked : Tables
     meeting-so (Fills input now call) said (Reached s notes) reported so =
         filled-so input now call said s notes (call_of call (losses s input now)) refl reported.holds reported.good so
 
-    -- ---- each work stands between its two lines
-
-    -- the lines of a step up to its works tell of these
-    told-so :
-        (said : List ToolCommand) (before : List Happening) (input : Input ToolCommand) (now : ℕ) (s : EquipmentView)
-        → Holds plan said s.node.own s.node.core.drawn before → IsGoodView plan fits s → IsSpoolSo s before
-        → AreInPairs (standing_in s).next s.file.list (owed_in (begun_step s input now))
-        (changes_in (step_in (begun_step s input now)).notes)
-    told-so said before input now s holds good so =
-        subst (λ (lines : List Happening). AreInPairs (next_of w) s.file.list v.works (changes_in lines))
-        (sym (same-lines notes told.lines before told.noted))
-        (subst (λ (list : List Put). AreInPairs (next_of w) list v.works (changes_in told.lines)) stays.0
-        (subst
-        (λ (n : ℕ). AreInPairs n (step_in went).next.file.list v.works (changes_in told.lines)) next-is told.pairs))
-      where
-        went : Went EquipmentView Happening
-        went = begun_step s input now
-
-        notes : List Happening
-        notes = (step_in went).notes
-
-        w : LedgerView
-        w = s.node.own.ledger
-
-        v : LedgerView
-        v = (step_in went).next.node.own.ledger
-
-        told : AreTold v (step_in went).next.file.list before (noted_behind notes before)
-        told =
-            ((begun-so plan fits looked slots) (with_command input said) before went
-            ((begun-both plan fits looked slots) said before input now s holds so.shelves)).told
-
-        stays : ((step_in went).next.file.list ≡ s.file.list) × (v.stood ≡ w.stood)
-        stays = begun-stood plan fits s input now good
-
-        stood-is : stood_count w ≡ decided_count w
-        stood-is =
-            ap (λ (works : List Work). counts_after (stood_count w) works) (sym so.none) ∙ so.shelves.is.come_to
-
-        next-is : v.stood.first + v.stood.len ≡ next_of w
-        next-is =
-            ap (λ (at : Stand). at.first + at.len) stays.1 ∙ ap (λ (c : Count). c.next) stood-is
-
-    -- and so do the lines of all of it
-    pairs-of-step :
-        (said : List ToolCommand) (before : List Happening) (input : Input ToolCommand) (now : ℕ) (s : EquipmentView)
-        → Holds plan said s.node.own s.node.core.drawn before → IsGoodView plan fits s → IsSpoolSo s before
-        → ArePairsOfStep s input now
-    pairs-of-step said before input now s holds good so =
-        let by_then = told-so said before input now s holds good so in
-        record {
-          by_then = by_then;
-          in_all =
-              subst (AreInPairs (standing_in s).next s.file.list (owed_in (begun_step s input now)))
-              (sym ((step-lines plan fits looked slots) said before input now s holds so.shelves good)) by_then;
-        }
-
     module _ (file : SpoolFile) (all : file.slots ≡ slots) (may : MayHold file) where
       course-kept : (meetings : List (Meeting ToolCommand))
           → IsCourseKept (course_of (started_on plan file) machine meetings)
       course-kept [] =
           started-so plan file [] refl all (inl (record { found = found_in file.list; is = refl; alone = refl }))
           may.run
-          (subst (λ (n : ℕ). length file.list ≤ n) all may.room) may.bound
+          (subst (λ (n : ℕ). length file.list ≤ n) all may.room) may.bound may.floor
       course-kept (meeting ∷ meetings) =
           meeting-so meeting (commands_met (started_on plan file) meetings)
           (course_of (started_on plan file) machine meetings)
@@ -510,6 +503,7 @@ spool-is-kept looked plan slots fits some most meetings =
       run = tt;
       room = omega arith;
       bound = omega arith;
+      floor = omega arith;
       sent = All-nil (λ (m : Put). CanBeSent (spooled_of m));
     })
     meetings)

@@ -21,7 +21,8 @@ use Rattle.equipment_tables.specs.Laws.{TablesAreLookedBackFor}
 use Rattle.equipment_tables.specs.Plan.{EquipmentPlanFits}
 use Rattle.tool_step.specs.declared.kind.Kind.{Kind}
 use Rattle.tool_step.specs.Equipment.{EquipmentView, act, begun_step, ended_step, is_marked_out, needs_numbers, new_own, node_step, oldest_of, parts_done, reserved, settled, settled_list, settled_own, settled_step, settled_went, went_with_file}
-use Rattle.spool_works.specs.Found.{first_in, found_in}
+use Rattle.spool_slots.specs.Area.{first_of}
+use Rattle.spool_works.specs.Found.{found_in}
 use Rattle.tool_reports.specs.Histories.{with_command}
 use Rattle.tool_law.proofs.Lawful.{IsGoodView, begun-good, oldest-good, settled-view-good}
 use Rattle.tool_spool.proofs.Interrupted.{WhereGoes}
@@ -325,14 +326,14 @@ module _ (plan : EquipmentPlan) (fits : EquipmentPlanFits plan) (looked : Tables
 
   -- ---- starts
 
-  pub first-run : (n : ℕ) (list : List Put) → IsRunFrom n list → IsRunFrom (first_in list) list
-  first-run n [] run = tt
-  first-run n (m ∷ list) run = (refl, subst (λ (k : ℕ). IsRunFrom (k + 1) list) (sym run.0) run.1)
+  pub first-run : (floor n : ℕ) (list : List Put) → IsRunFrom n list → IsRunFrom (first_of floor list) list
+  first-run floor n [] run = tt
+  first-run floor n (m ∷ list) run = (refl, subst (λ (k : ℕ). IsRunFrom (k + 1) list) (sym run.0) run.1)
 
-  pub first-bound : (n most : ℕ) (list : List Put) → IsRunFrom n list → n + length list ≤ most
-      → first_in list + length list ≤ most
-  first-bound n most [] run below = omega (arith, below)
-  first-bound n most (m ∷ list) run below = let same = run.0 in omega (arith, below, same)
+  pub first-bound : (floor n most : ℕ) (list : List Put) → IsRunFrom n list → n + length list ≤ most → floor ≤ most
+      → first_of floor list + length list ≤ most
+  first-bound floor n most [] run below low = omega (arith, low)
+  first-bound floor n most (m ∷ list) run below low = let same = run.0 in omega (arith, below, same)
 
   -- a start finds what stands, or what a loss of power has left of it
   abbrev pub Finds : List Happening → List Put → Type 0
@@ -348,13 +349,13 @@ module _ (plan : EquipmentPlan) (fits : EquipmentPlanFits plan) (looked : Tables
   }
 
   pub started-shelves :
-      (list : List Put) (mark : ℕ) (before notes : List Happening) → 0 < slots → slots < 2 ^ 16
+      (list : List Put) (first mark : ℕ) (before notes : List Happening) → 0 < slots → slots < 2 ^ 16
       → KeepsOn (policy_of plan slots) (Happening.EquipmentStarted (found_in list) mark ∷ notes)
-      → IsRunFrom (first_in list) list → length list ≤ slots → first_in list + length list ≤ 2 ^ 63 + 65535
+      → IsRunFrom first list → length list ≤ slots → first + length list ≤ 2 ^ 63 + 65535
       → Shelves plan slots list (Happening.EquipmentStarted (found_in list) mark ∷ notes) before
-      (new_own plan (new_ledger slots (first_in list) (length list))) (new_end (end_plan plan) (numbers_from mark 4096))
+      (new_own plan (new_ledger slots first (length list))) (new_end (end_plan plan) (numbers_from mark 4096))
       (Happening.EquipmentStarted (found_in list) mark ∷ notes)
-  started-shelves list mark before notes some most kept run room bound = record {
+  started-shelves list first mark before notes some most kept run room bound = record {
     is = record {
       some = some;
       most = below slots most;
@@ -372,10 +373,10 @@ module _ (plan : EquipmentPlan) (fits : EquipmentPlanFits plan) (looked : Tables
       run = run;
       long = refl;
       lines =
-          lines-none (new_ledger slots (first_in list) (length list)) list
+          lines-none (new_ledger slots first (length list)) list
           (Happening.EquipmentStarted (found_in list) mark ∷ notes) refl;
       told =
-          told-none (new_ledger slots (first_in list) (length list)) list
+          told-none (new_ledger slots first (length list)) list
           (Happening.EquipmentStarted (found_in list) mark ∷ notes) refl;
       closed = tt;
     };

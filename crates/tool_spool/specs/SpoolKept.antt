@@ -38,11 +38,12 @@ policy_of plan slots = record {
 -- ---- over a file of an earlier run
 
 -- what a file may hold as the equipment starts over it: as many messages as slots at most, numbered one after
--- the other, each of which can be sent (this profile)
+-- the other, each of which can be sent; and the floor has the same bound as their numbers (this profile)
 pub record MayHold (file : SpoolFile) : Type 0 where
-  pub run : IsRunFrom (first_in file.list) file.list
+  pub run : IsRunFrom (first_in file) file.list
   pub room : length file.list ≤ file.slots
-  pub bound : first_in file.list + length file.list ≤ 2 ^ 63 + 65535
+  pub bound : first_in file + length file.list ≤ 2 ^ 63 + 65535
+  pub floor : file.floor.value ≤ 2 ^ 63 + 65535
   pub sent : AllCanBeSent file.list
 
 -- the first of all notes is a start that finds these messages; each later one agrees with all before it

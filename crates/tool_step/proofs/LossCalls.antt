@@ -11,7 +11,7 @@ use Rattle.spool_works.specs.DiskWorks.DiskWork.{Change, ReadOldest, Reserve}
 use Rattle.tool_step.specs.Equipment.{EquipmentView, begun_step}
 use Rattle.tool_step.specs.Losses.{LossesAreCounted, loss_at, losses_of}
 use Rattle.spool_works.specs.WorkLosses.{calls_at}
-use Rattle.spool_works.specs.SpoolLosses.{Left}
+use Rattle.gem_spool.specs.Updates.{Left}
 use Rattle.message_end.proofs.Members.{has-either}
 use Rattle.spool_works.proofs.LossCounts.{length-both, Each, calls-count}
 

@@ -1,10 +1,8 @@
 -- The worked runs with the spool, computed.
 use Rattle.std.specs.Prelude.{refl}
-use Rattle.gate_cell.specs.Cell.{copy_bytes}
 use Rattle.line_end.specs.Frames.{block_in, is_frame, sum_cause}
 use Rattle.tool_step.specs.Sampling.{sample_parts}
 use Rattle.tool_step.specs.Step.{late_parts}
-use Rattle.spool_works.specs.WorkedCalls.{CallsOfWorks, KeptBehindWorks}
 use Rattle.tool_step.specs.WorkedSpool.{FullSpools, LosesInOrder, PutsTheLast, SpoolingBegins, UnloadsInOrder}
 
 pub spooling-begins : SpoolingBegins
@@ -24,10 +22,3 @@ puts-the-last = record { spent = refl; notes = refl; stands = refl; works = refl
 pub unloads-in-order : UnloadsInOrder
 unfolding block_in is_frame sum_cause late_parts sample_parts
 unloads-in-order = record { first = refl; left = refl; second = refl; none = refl; inactive = refl }
-
-pub calls-of-works : CallsOfWorks
-unfolding copy_bytes
-calls-of-works = record { puts = refl; drops = refl; purges = refl; tries = refl; reserves = refl; overwrites = refl }
-
-pub kept-behind-works : KeptBehindWorks
-kept-behind-works = record { put = refl; dropped = refl; purged = refl; reserved = refl; overwritten = refl }

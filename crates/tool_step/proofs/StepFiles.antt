@@ -1,5 +1,5 @@
 -- What works and a step make of the file: a step changes it by its works alone, and no work changes its slots.
-use Rattle.std.proofs.Common.{◌≡◌, refl, ap, ◌∙◌, Bool, true, false, ℕ, List, [], ◌∷◌, Some, if◌then◌else◌}
+use Rattle.std.proofs.Common.{◌≡◌, refl, sym, ap, subst, ◌∙◌, Bool, true, false, ℕ, List, [], ◌∷◌, Some, if◌then◌else◌}
 use Rattle.gate_cell.specs.Cell.{Cell}
 use Rattle.gem_spool.specs.Standing.{Standing}
 use Rattle.gem_spool.specs.Works.{lists_after, standing_after, standings_after}
@@ -9,6 +9,7 @@ use Rattle.message_end.specs.Core.Went.{Goes, Spent}
 use Rattle.message_end.specs.Ends.{Input}
 use Rattle.message_end.specs.Parts.{Node, after_parts}
 use Rattle.spool_ledger.specs.Ledger.{LedgerView, stood_count}
+use Rattle.spool_slots.specs.Changes.{with_mark_moved}
 use Rattle.spool_slots.specs.File.{SpoolFile}
 use Rattle.trace_log.specs.declared.commands.ToolCommand.{ToolCommand}
 use Rattle.trace_log.specs.Log.{Happening}
@@ -62,25 +63,25 @@ ended-file (Goes step) now =
     (after_parts Some (last_parts (oldest_of (settled step.next)) now) (node_step (settled_step step)))
 ended-file (Spent step) now = refl
 
-begun-slots : (s : EquipmentView) (input : Input ToolCommand) (now : ℕ)
-    → (step_in (begun_step s input now)).next.file.slots ≡ s.file.slots
-begun-slots s input now = go (needs_numbers s) (is_marked_out s.file.mark.value)
+-- what comes before them moves its mark on, or leaves it as it is
+pub begun-file : (P : SpoolFile → Type 0) (s : EquipmentView) (input : Input ToolCommand) (now : ℕ) → P s.file
+    → P (with_mark_moved s.file) → P (step_in (begun_step s input now)).next.file
+begun-file P s input now is moved = go (needs_numbers s) (is_marked_out s.file.mark.value)
   where
     go : (needs spent : Bool)
-        → (step_in (and_then
+        → P (step_in (and_then
         (if needs then if spent then Spent (at_first s) else Goes (at_first (reserved s)) else Goes (at_first s))
-        (parts_done (first_parts input now)))).next.file.slots ≡ s.file.slots
-    go true true = refl
+        (parts_done (first_parts input now)))).next.file
+    go true true = is
     go true false =
-        ap (λ (file : SpoolFile). file.slots)
-        (parts-file (reserved s) (after_parts Some (first_parts input now) (at_first (reserved s).node)))
+        subst P
+        (sym (parts-file (reserved s) (after_parts Some (first_parts input now) (at_first (reserved s).node)))) moved
     go false spent =
-        ap (λ (file : SpoolFile). file.slots)
-        (parts-file s (after_parts Some (first_parts input now) (at_first s.node)))
+        subst P (sym (parts-file s (after_parts Some (first_parts input now) (at_first s.node)))) is
 
 pub act-slots : (s : EquipmentView) (input : Input ToolCommand) (now : ℕ)
     → (step_in (act s input now)).next.file.slots ≡ s.file.slots
 act-slots s input now =
     ap (λ (file : SpoolFile). file.slots) (ended-file (begun_step s input now) now)
     ∙ settled-slots (step_in (begun_step s input now)).next.node.own.ledger (step_in (begun_step s input now)).next.file
-    ∙ begun-slots s input now
+    ∙ begun-file (λ (file : SpoolFile). file.slots ≡ s.file.slots) s input now refl refl

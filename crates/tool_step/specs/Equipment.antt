@@ -145,7 +145,7 @@ abbrev pub started_on : EquipmentPlan → SpoolFile → Step EquipmentView Happe
 started_on plan file = record {
   next = record {
     node = record {
-      own = new_own plan (new_ledger file.slots (first_in file.list) (length file.list));
+      own = new_own plan (new_ledger file.slots (first_in file) (length file.list));
       core = new_end (end_plan plan) (numbers_from file.mark.value 4096);
     };
     file = with_mark_moved file;

@@ -10,7 +10,7 @@ use Rattle.trace_log.specs.Log.{Happening}
 use Rattle.spool_works.specs.DiskWorks.{DiskWork, behind_change, standing_behind, up_to_change}
 use Rattle.tool_step.specs.Disk.{asks, standing_in, stops, works_of}
 use Rattle.tool_step.specs.Equipment.{EquipmentView, begun_step}
-use Rattle.spool_works.specs.SpoolLosses.{Left}
+use Rattle.gem_spool.specs.Updates.{Left}
 use Rattle.spool_works.specs.WorkLosses.{calls_at}
 
 -- all else is gone with the power, and a start anew asks for none of it but the plan

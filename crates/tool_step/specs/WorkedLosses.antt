@@ -15,6 +15,6 @@ stand_filled = map (λ loss. length (loss.left (Fill 165)).file.list) (losses la
 -- the line fails, and a report is put: its message stands from the write of the gate on, where that is left
 pub record LosesAtCalls : Type 0 where
   pub fronts :
-      map (λ loss. length loss.front) (losses last_view Time 10000) ≡ 3 ∷ 3 ∷ 3 ∷ 3 ∷ []
-  pub new : stand_then ≡ 0 ∷ 0 ∷ 1 ∷ 1 ∷ []
-  pub filled : stand_filled ≡ 0 ∷ 0 ∷ 0 ∷ 0 ∷ []
+      map (λ loss. length loss.front) (losses last_view Time 10000) ≡ 3 ∷ 3 ∷ 3 ∷ 3 ∷ 3 ∷ []
+  pub new : stand_then ≡ 0 ∷ 0 ∷ 0 ∷ 1 ∷ 1 ∷ []
+  pub filled : stand_filled ≡ 0 ∷ 0 ∷ 0 ∷ 0 ∷ 0 ∷ []

@@ -1,7 +1,6 @@
 //! What holds of a step's works, and steps that can be followed by hand.
 
 ghost use Rattle.tool_step.specs.CallsCounted.{CallsAreCounted};
-ghost use Rattle.spool_works.specs.WorkedCalls.{CallsOfWorks, KeptBehindWorks};
 ghost use Rattle.tool_step.specs.Losses.{LossesAreCounted};
 ghost use Rattle.tool_step.specs.WorkedLosses.{LosesAtCalls};
 ghost use Rattle.tool_step.specs.WorkedOwnS1F13.{EndOwnS1F13};
@@ -15,16 +14,13 @@ pub fn calls_are_counted()
 
 /// Examples of a spool. Nobody answers, and spooling begins; a message comes to a full spool, which overwrites or not;
 /// an unload of three messages, of which two may go at a time and the second is not confirmed at first; the
-/// communication is lost as five messages are open; one number is left as three reports are to be put; and the disk's
-/// calls of each kind of work, with what is kept behind them.
+/// communication is lost as five messages are open; and one number is left as three reports are to be put.
 pub fn worked_spool_runs()
     ensures begins { SpoolingBegins }
     ensures full { FullSpools }
     ensures unloads { UnloadsInOrder }
     ensures loses { LosesInOrder }
     ensures last { PutsTheLast }
-    ensures calls { CallsOfWorks }
-    ensures kept { KeptBehindWorks }
 {}
 
 /// A trace of two samples of one variable, from what the host asks for to its S6F1, and requests that are refused; and

@@ -36,7 +36,7 @@ returns-in-NumbersSpent-clause-calls g c s input now stops begin =
 
 pub returns-in-NoMemory-clause-calls : goal.returns-in-NoMemory-clause-calls
 returns-in-NoMemory-clause-calls g c s input now stops begin =
-    none-called g.D.Disk s input now c.args.spool begin.clear c.retire.result c.retire.ensures.disk
+    none-called g.D.Disk s input now c.args.spool begin.clear begin.told c.retire.result c.retire.ensures.disk
 
 pub returns-in-DiskFailed-clause-calls : goal.returns-in-DiskFailed-clause-calls
 returns-in-DiskFailed-clause-calls g c s input now stops begin =

@@ -41,7 +41,7 @@ returns-in-Err-clause-acts g c s input begun begin =
 
 pub returns-in-Ok-clause-calls : goal.returns-in-Ok-clause-calls
 returns-in-Ok-clause-calls g c s input begun begin =
-    behind-called g.D.Disk s input c.args.now c.args.spool begin.clear begin.went c.in-Ok.spool
+    behind-called g.D.Disk s input c.args.now c.args.spool begin.clear begin.told begin.went c.in-Ok.spool
     (node_of c.args.tool.now) c.args.out.now begun c.from_read.result c.requires.ready.count c.in-Ok.ensures.come_to
     c.in-Ok.ensures.works.0
     (c.from_read.ensures.calls (settled_step begun.step)
@@ -52,8 +52,8 @@ returns-in-Ok-clause-calls g c s input begun begin =
 
 pub returns-in-Err-clause-calls : goal.returns-in-Err-clause-calls
 returns-in-Err-clause-calls g c s input begun begin =
-    behind-stops g.D.Disk s input c.args.now c.args.spool begin.clear (node_of c.args.tool.now) c.args.out.now
-    c.carry_out.new.out begun c.in-Err.ended c.in-Err.ensures.works
+    behind-stops g.D.Disk s input c.args.now c.args.spool begin.clear begin.told (node_of c.args.tool.now)
+    c.args.out.now c.carry_out.new.out begun c.in-Err.ended c.in-Err.ensures.works
 
 pub returns-in-Ok-clause-disk : goal.returns-in-Ok-clause-disk
 returns-in-Ok-clause-disk g c =
@@ -72,12 +72,12 @@ returns-in-Ok-clause-breaks g c s input begun begin =
     (node_of c.carry_out.new.tool) c.args.out.now c.carry_out.new.out begun begin.clear begin.told
     c.requires.ready.count c.in-Ok.ensures.come_to c.in-Ok.ensures.works.0 c.in-Ok.ensures.node c.in-Ok.ensures.works.1
     in
-    behind-breaks g.D.Disk s input c.args.now c.args.spool begin.clear
+    behind-breaks g.D.Disk s input c.args.now c.args.spool begin.clear begin.told
     begin.went c.in-Ok.spool (node_of c.args.tool.now) c.args.out.now begun c.from_read.new.out.notes c.from_read.result
     c.requires.ready.count c.in-Ok.ensures.come_to c.in-Ok.ensures.works.0
     (c.from_read.ensures.breaks (settled_step begun.step) at s)
 
 pub returns-in-Err-clause-breaks : goal.returns-in-Err-clause-breaks
 returns-in-Err-clause-breaks g c s input begun begin =
-    behind-broken g.D.Disk s input c.args.now c.args.spool begin.clear (node_of c.args.tool.now) c.args.out.now
-    c.carry_out.new.out begun c.in-Err.ended begin.told c.in-Err.ensures.works
+    behind-broken g.D.Disk s input c.args.now c.args.spool begin.clear begin.told (node_of c.args.tool.now)
+    c.args.out.now c.carry_out.new.out begun c.in-Err.ended c.in-Err.ensures.works

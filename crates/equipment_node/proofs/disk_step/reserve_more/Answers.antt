@@ -53,7 +53,7 @@ returns-in-Ok-default-None-clause-opens g c s node_is needs on told =
 
 pub returns-in-Err-clause-opens : goal.returns-in-Err-clause-opens
 returns-in-Err-clause-opens g c s node_is needs on told = (
-  mark-failed g.D.Disk s c.args.spool needs on.clear c.in-Err.ensures.reserve.0.left,
+  mark-failed g.D.Disk s c.args.spool needs on.clear c.in-Err.ensures.reserve.0,
   λ t is.
       at-last told.0 _ _ t (c.in-Err.ensures.moments (standing_in s) on.clear.stands told.0 told.1) is,
 )

@@ -23,12 +23,12 @@ returns-in-Err-clause-acts g c s input now stops begin =
 
 pub returns-in-Ok-clause-calls : goal.returns-in-Ok-clause-calls
 returns-in-Ok-clause-calls g c s input now stops begin =
-    spent-called g.D.Disk s input now c.args.spool begin.clear c.in-Ok.spool (node_of c.args.tool.now)
+    spent-called g.D.Disk s input now c.args.spool begin.clear begin.told c.in-Ok.spool (node_of c.args.tool.now)
     c.args.out.now stops c.retire.result c.in-Ok.ensures.works.0 c.retire.ensures.disk
 
 pub returns-in-Err-clause-calls : goal.returns-in-Err-clause-calls
 returns-in-Err-clause-calls g c s input now stops begin =
-    spent-stops g.D.Disk s input now c.args.spool begin.clear (node_of c.args.tool.now) c.args.out.now
+    spent-stops g.D.Disk s input now c.args.spool begin.clear begin.told (node_of c.args.tool.now) c.args.out.now
     c.carry_out.new.out stops c.in-Err.ended c.in-Err.ensures.works
 
 pub returns-in-Ok-clause-disk : goal.returns-in-Ok-clause-disk
@@ -43,10 +43,10 @@ returns-in-Err-clause-disk g c =
 
 pub returns-in-Ok-clause-breaks : goal.returns-in-Ok-clause-breaks
 returns-in-Ok-clause-breaks g c s input now stops begin =
-    spent-breaks g.D.Disk s input now c.args.spool begin.clear c.in-Ok.spool (node_of c.args.tool.now) c.args.out.now
-    stops c.carry_out.new.out.notes c.retire.result c.in-Ok.ensures.works.0 c.retire.ensures.disk
+    spent-breaks g.D.Disk s input now c.args.spool begin.clear begin.told c.in-Ok.spool (node_of c.args.tool.now)
+    c.args.out.now stops c.carry_out.new.out.notes c.retire.result c.in-Ok.ensures.works.0 c.retire.ensures.disk
 
 pub returns-in-Err-clause-breaks : goal.returns-in-Err-clause-breaks
 returns-in-Err-clause-breaks g c s input now stops begin =
-    spent-broken g.D.Disk s input now c.args.spool begin.clear (node_of c.args.tool.now) c.args.out.now
-    c.carry_out.new.out stops c.in-Err.ended begin.told c.in-Err.ensures.works
+    spent-broken g.D.Disk s input now c.args.spool begin.clear begin.told (node_of c.args.tool.now)
+    c.args.out.now c.carry_out.new.out stops c.in-Err.ended c.in-Err.ensures.works

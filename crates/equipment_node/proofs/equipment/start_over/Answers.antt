@@ -3,7 +3,8 @@ use Rattle.gem_spool.specs.Spool.{ReservesFrom}
 use Rattle.gem_spool.specs.Standing.{Stands, standing_of}
 use Rattle.gem_spool.specs.Works.{standing_after_reserve}
 use Rattle.equipment_node.proofs.Beginning.{none-left, start-failed, started}
-use Rattle.equipment_node.proofs.HandingBack.{kept-at, kept-then, reserved-back, seated-back, start-then, unreserved-back}
+use Rattle.equipment_node.proofs.HandingBack.{kept-at, kept-then, reserved-back, seated-back, start-then}
+use Rattle.equipment_node.proofs.HandingBack.{unreserved-back}
 use Rattle.equipment_node.proofs.StartCalled.{mark-moved, mark-stays, move-stops}
 use Rattle.equipment_node.proofs.Standings.{start-sure}
 use Rattle.equipment_node.proofs.equipment.start_over.Goals as goal
@@ -15,7 +16,7 @@ start_with-requires g c =
     c.in-Ok.ensures.reserve in
     record {
       plan = c.requires.plan;
-      numbers = subst (λ (n : ℕ). n + 4096 ≤ 2 ^ 32) (sym done.0.1) done.0.0.left;
+      numbers = subst (λ (n : ℕ). n + 4096 ≤ 2 ^ 32) (sym done.0.1) done.0.0.0;
       even = (c.in-Ok.ensures.stands (standing_of g.D.Disk c.args.spool.spool) c.len.ensures.stands).even;
     }
 

@@ -15,16 +15,20 @@ returns-in-Err-clause-images g c = λ s told. either_of s c.args.at _ _ _ (c.in-
 
 pub returns-in-Err-clause-calls : goal.returns-in-Err-clause-calls
 returns-in-Err-clause-calls g c = λ s told.
-    inl (preparing_wider s c.args.at c.args.value _ _ _ _ (λ is. crowded_wider (g.D.Disk.health c.args.disk) 3 8 5 9 (omega arith) (omega arith) is) (c.in-Err.ensures.calls s told))
+    inl (preparing_wider s c.args.at c.args.value _ _ _ _
+    (λ is. crowded_wider (g.D.Disk.health c.args.disk) 3 8 5 9 (omega arith) (omega arith) is)
+    (c.in-Err.ensures.calls s told))
 
 pub returns-in-Err-clause-cause : goal.returns-in-Err-clause-cause
 returns-in-Err-clause-cause g c =
-    fault_wider (g.D.Disk.health c.args.disk) _ 3 5 _ ((g.D.Disk.health c.args.disk).room < 9) (omega arith) (λ less. omega (arith, less)) c.in-Err.ensures.cause
+    fault_wider (g.D.Disk.health c.args.disk) _ 3 5 _ ((g.D.Disk.health c.args.disk).room < 9) (omega arith)
+    (λ less. omega (arith, less)) c.in-Err.ensures.cause
 
 pub returns-in-Ok-commit-clause-images : goal.returns-in-Ok-commit-clause-images
 returns-in-Ok-commit-clause-images g c = λ s told.
     let p = c.in-Ok.ensures.told s told in
-    commit_images s p.images.0 c.args.at c.args.value _ _ c.in-Ok.ensures.value.0 p.images.1 p c.in-Ok.ensures.value.1 _ _ Done
+    commit_images s p.images.0 c.args.at c.args.value _ _ c.in-Ok.ensures.value.0 p.images.1 p c.in-Ok.ensures.value.1 _
+    _ Done
     (c.in-Ok-commit.ensures.told p.images.0 p.images.1)
 
 pub returns-in-Ok-commit-clause-value : goal.returns-in-Ok-commit-clause-value
@@ -37,34 +41,40 @@ pub returns-in-Ok-commit-clause-calls : goal.returns-in-Ok-commit-clause-calls
 returns-in-Ok-commit-clause-calls g c = λ s told. record {
   prepared = g.D.Disk.calls c.in-Ok.prepared.disk;
   first = c.in-Ok.ensures.calls s told;
-  last = gate_calls s c.args.at _ _ _ _ _ _ Done (λ is. crowded_behind _ _ 3 8 c.in-Ok.ensures.cause 2 1 5 9 (omega arith) (omega arith) is)
+  last = gate_calls s c.args.at _ _ _ _ _ _ Done
+      (λ is. crowded_behind _ _ 3 8 c.in-Ok.ensures.cause 2 1 5 9 (omega arith) (omega arith) is)
       c.in-Ok.ensures.value.0 (c.in-Ok.ensures.second s told) c.in-Ok-commit.ensures.calls;
 }
 
 pub returns-in-Ok-commit-clause-listed : goal.returns-in-Ok-commit-clause-listed
 returns-in-Ok-commit-clause-listed g c =
-    λ going. listed_behind (c.in-Ok.ensures.listed going) (c.in-Ok-commit.ensures.listed (lists_on _ _ 3 8 c.in-Ok.ensures.cause going))
+    λ going. listed_behind (c.in-Ok.ensures.listed going)
+    (c.in-Ok-commit.ensures.listed (lists_on _ _ 3 8 c.in-Ok.ensures.cause going))
 
 pub returns-in-Ok-commit-clause-cause : goal.returns-in-Ok-commit-clause-cause
-returns-in-Ok-commit-clause-cause g c = used_behind _ _ 3 8 c.in-Ok.ensures.cause _ 2 1 5 9 (omega arith) (omega arith) c.in-Ok-commit.ensures.cause
+returns-in-Ok-commit-clause-cause g c =
+    used_behind _ _ 3 8 c.in-Ok.ensures.cause _ 2 1 5 9 (omega arith) (omega arith) c.in-Ok-commit.ensures.cause
 
 pub returns-in-Err-commit-clause-images : goal.returns-in-Err-commit-clause-images
 returns-in-Err-commit-clause-images g c = λ s told.
     let p = c.in-Ok.ensures.told s told in
-    commit_images s p.images.0 c.args.at c.args.value _ _ c.in-Ok.ensures.value.0 p.images.1 p c.in-Ok.ensures.value.1 _ _ Failed
+    commit_images s p.images.0 c.args.at c.args.value _ _ c.in-Ok.ensures.value.0 p.images.1 p c.in-Ok.ensures.value.1 _
+    _ Failed
     (c.in-Err-commit.ensures.told p.images.0 p.images.1)
 
 pub returns-in-Err-commit-clause-calls : goal.returns-in-Err-commit-clause-calls
 returns-in-Err-commit-clause-calls g c = λ s told. inr (record {
   prepared = g.D.Disk.calls c.in-Ok.prepared.disk;
   first = c.in-Ok.ensures.calls s told;
-  last = gate_calls s c.args.at _ _ _ _ _ _ Failed (λ is. crowded_behind _ _ 3 8 c.in-Ok.ensures.cause 2 1 5 9 (omega arith) (omega arith) is)
+  last = gate_calls s c.args.at _ _ _ _ _ _ Failed
+      (λ is. crowded_behind _ _ 3 8 c.in-Ok.ensures.cause 2 1 5 9 (omega arith) (omega arith) is)
       c.in-Ok.ensures.value.0 (c.in-Ok.ensures.second s told) c.in-Err-commit.ensures.calls;
 })
 
 pub returns-in-Err-commit-clause-listed : goal.returns-in-Err-commit-clause-listed
 returns-in-Err-commit-clause-listed g c =
-    λ going. listed_behind (c.in-Ok.ensures.listed going) (c.in-Err-commit.ensures.listed (lists_on _ _ 3 8 c.in-Ok.ensures.cause going))
+    λ going. listed_behind (c.in-Ok.ensures.listed going)
+    (c.in-Err-commit.ensures.listed (lists_on _ _ 3 8 c.in-Ok.ensures.cause going))
 
 pub returns-in-Err-commit-clause-cause : goal.returns-in-Err-commit-clause-cause
 returns-in-Err-commit-clause-cause g c =
@@ -73,25 +83,29 @@ returns-in-Err-commit-clause-cause g c =
 
 planned_of : (h k : DiskHealth) → IsSure h 5 9 → HasCause h k 3 8 (h.room < 8) Failed → IsPlanned h 3
 planned_of h k sure cause =
-    ⊎_elim (λ planned. planned) (λ less. absurd (omega (arith, less, sure.bytes_fit))) (cause.lacking (omega (arith, sure.calls_fit)))
+    ⊎_elim (λ planned. planned) (λ less. absurd (omega (arith, less, sure.bytes_fit)))
+    (cause.lacking (omega (arith, sure.calls_fit)))
 
 pub returns-in-Err-clause-loss : goal.returns-in-Err-clause-loss
-returns-in-Err-clause-loss g c = λ s told sure. record {
+returns-in-Err-clause-loss g c = λ s told. record {
   early = λ planned. (c.in-Err.ensures.told s told).images;
-  late = λ none. absurd (none (planned_of _ _ sure c.in-Err.ensures.cause));
+  late = λ sure none. absurd (none (planned_of _ _ sure c.in-Err.ensures.cause));
 }
 
 pub returns-in-Err-commit-clause-loss : goal.returns-in-Err-commit-clause-loss
-returns-in-Err-commit-clause-loss g c = λ s told sure.
+returns-in-Err-commit-clause-loss g c = λ s told.
     let p = c.in-Ok.ensures.told s told in
     let w = c.in-Ok.prepared in
     let d = c.in-Err-commit.disk in
-    let lost = lost_late c.failed_settle_has_written.ensures c.cut_leaves_the_chosen_byte.ensures s p.images.0 c.args.at c.args.value w.at w.second
-    (g.D.Disk.health c.args.disk) (g.D.Disk.health w.disk) (g.D.Disk.told w.disk) (g.D.Disk.told d) (g.D.Disk.calls w.disk) (g.D.Disk.calls d)
-    sure c.in-Ok.ensures.cause p.images.1 p c.in-Ok.ensures.value.1 c.in-Ok.ensures.value.0 (w.spare p.images.0 p.images.1)
-    (c.in-Ok.ensures.second s told) (g.met.D.Disk.calls_told w.disk p.images.0 p.images.1) c.in-Err-commit.ensures.calls
-    c.in-Err-commit.ensures.listed in
     record {
       early = λ planned. absurd (c.in-Ok.ensures.cause.unplanned planned);
-      late = λ none. lost;
+      late = λ sure none. lost_late c.failed_settle_has_written.ensures c.cut_leaves_the_chosen_byte.ensures s
+          p.images.0 c.args.at c.args.value w.at w.second
+          (g.D.Disk.health c.args.disk) (g.D.Disk.health w.disk) (g.D.Disk.told w.disk) (g.D.Disk.told d)
+          (g.D.Disk.calls w.disk) (g.D.Disk.calls d)
+          sure c.in-Ok.ensures.cause p.images.1 p c.in-Ok.ensures.value.1 c.in-Ok.ensures.value.0
+          (w.spare p.images.0 p.images.1)
+          (c.in-Ok.ensures.second s told) (g.met.D.Disk.calls_told w.disk p.images.0 p.images.1)
+          c.in-Err-commit.ensures.calls
+          c.in-Err-commit.ensures.listed;
     }

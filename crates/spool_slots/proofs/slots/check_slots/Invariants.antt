@@ -12,8 +12,9 @@ use Rattle.spool_slots.proofs.slots.check_slots.Given as goal
 abbrev pub invariant-loop-slot : goal.invariant-loop-slot
 invariant-loop-slot g l =
     ((s : Story) → g.D.Disk.told l.fn.disk ≡ Some s →
-    first_at (λ k. in_slot k (ahead_break l.fn.end (slot_in s.now.bytes k))) l.slot ≡ None)
+    first_at (λ k. in_slot k (ahead_break l.fn.floor l.fn.end (slot_in s.now.bytes k))) l.slot ≡ None)
     × (g.D.Disk.told l.disk ≡ g.D.Disk.told l.fn.disk)
     × (g.D.Disk.size_is l.disk ≡ g.D.Disk.size_is l.fn.disk)
     × IsSameDisk g.D.Disk l.fn.disk l.disk
-    × HasRead (g.D.Disk.health l.fn.disk) (g.D.Disk.health l.disk) (g.D.Disk.calls l.fn.disk) (g.D.Disk.calls l.disk) l.slot Done
+    × HasRead (g.D.Disk.health l.fn.disk) (g.D.Disk.health l.disk) (g.D.Disk.calls l.fn.disk) (g.D.Disk.calls l.disk)
+    l.slot Done

@@ -1,5 +1,8 @@
-use Rattle.spool_works.proofs.FoundLosses.{losses-found}
+use Rattle.spool_works.proofs.FoundLosses.{losses-found, purges-whole}
 use Rattle.spool_works.proofs.laws.losses_are_found.Goals as goal
 
-pub returns : goal.returns
-returns c = losses-found
+pub returns-clause-found : goal.returns-clause-found
+returns-clause-found c = losses-found
+
+pub returns-clause-whole : goal.returns-clause-whole
+returns-clause-whole c = purges-whole

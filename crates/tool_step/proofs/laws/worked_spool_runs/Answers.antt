@@ -1,4 +1,4 @@
-use Rattle.tool_step.proofs.SpoolRuns.{calls-of-works, full-spools, kept-behind-works, loses-in-order, puts-the-last, spooling-begins, unloads-in-order}
+use Rattle.tool_step.proofs.SpoolRuns.{full-spools, loses-in-order, puts-the-last, spooling-begins, unloads-in-order}
 use Rattle.tool_step.proofs.laws.worked_spool_runs.Goals as goal
 
 pub returns-clause-begins : goal.returns-clause-begins
@@ -15,9 +15,3 @@ returns-clause-loses c = loses-in-order
 
 pub returns-clause-last : goal.returns-clause-last
 returns-clause-last c = puts-the-last
-
-pub returns-clause-calls : goal.returns-clause-calls
-returns-clause-calls c = calls-of-works
-
-pub returns-clause-kept : goal.returns-clause-kept
-returns-clause-kept c = kept-behind-works

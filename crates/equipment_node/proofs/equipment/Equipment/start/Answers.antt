@@ -1,6 +1,5 @@
 use Rattle.std.proofs.Common.{ap, subst, sym}
 use Rattle.std.specs.Prelude.{Err}
-use Rattle.spool_slots.specs.File.{file_in}
 use Rattle.equipment_node.specs.HandedBack.{StartHandsBack}
 use Rattle.equipment_node.specs.Held.{Begins, FindsFile}
 use Rattle.equipment_node.specs.StartCalls.{CallsInStart}
@@ -41,7 +40,7 @@ returns-in-Err-clause-spent g c s told =
 
 pub returns-in-Err-clause-calls : goal.returns-in-Err-clause-calls
 returns-in-Err-clause-calls g c s told =
-    subst (λ e. CallsInStart g.D.Disk c.args.raw.disk (file_in s.now.bytes) (Err e)) (sym c.why_not.ensures)
+    subst (λ e. CallsInStart g.D.Disk c.args.raw.disk s.now.bytes (Err e)) (sym c.why_not.ensures)
     (looked-only g.D.Disk c.args.raw.disk s told c.in-Err.unknown c.in-Err.ensures)
 
 pub returns-in-Ok-clause-disk : goal.returns-in-Ok-clause-disk

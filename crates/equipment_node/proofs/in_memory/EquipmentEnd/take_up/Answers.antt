@@ -5,7 +5,10 @@ use Rattle.disk_base.specs.contracts.mem_disk.MemDiskDisk.TheImpl.{ghosts}
 use Rattle.equipment_tables.specs.declared.plan.EquipmentPlan.{EquipmentPlan}
 use Rattle.equipment_node.specs.Held.{Begins, HasBegunOn, Held}
 use Rattle.equipment_node.specs.InMemory.{StartsAnew, starts_over}
+use Rattle.equipment_node.specs.StartCalls.{start_calls}
 use Rattle.equipment_node.specs.StartOver.{KeepsSure}
+use Rattle.spool_slots.specs.File.{file_in}
+use Rattle.spool_works.specs.DiskCalls.{HasMade}
 use Rattle.equipment_node.proofs.FromDisk.{anew-off, anew-on}
 use Rattle.equipment_node.proofs.in_memory.EquipmentEnd.take_up.Goals as goal
 
@@ -21,6 +24,10 @@ returns-in-Ok-clause-anew c is =
     (subst
     (λ (p : EquipmentPlan). HasBegunOn ghosts p disk.story.now.bytes c.start.new.out c.in-Ok.equipment)
     c.get.ensures.value (c.in-Ok.ensures.begins disk.story told))
+    (subst
+    (λ (d : DiskState).
+    HasMade ghosts d c.in-Ok.equipment.spool.spool.disk (start_calls (file_in disk.story.now.bytes)))
+    c.new.ensures (c.in-Ok.ensures.calls disk.story told))
     (subst
     (λ (d : DiskState). KeepsSure ghosts d c.in-Ok.equipment.spool.spool.disk)
     c.new.ensures c.in-Ok.ensures.keeps))

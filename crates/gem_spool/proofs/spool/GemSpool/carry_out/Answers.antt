@@ -4,7 +4,7 @@ use Rattle.std.proofs.Common.{◌≡◌, List, take, subst}
 use Rattle.std.proofs.lemmas.List.{take_all}
 use Rattle.gem_spool.specs.Works.{DoesAll}
 use Rattle.gem_spool.specs.declared.works.Work.{Work}
-use Rattle.gem_spool.proofs.Doing.{carried, has_turn, turn_done, turn_failed}
+use Rattle.gem_spool.proofs.Carrying.{carried, has_turn, turn_done, turn_failed}
 use Rattle.gem_spool.proofs.spool.GemSpool.carry_out.Goals as goal
 
 pub work-requires : goal.work-requires

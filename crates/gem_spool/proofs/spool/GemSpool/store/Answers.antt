@@ -1,7 +1,8 @@
 -- A put by how it ends: sealed, or failed in one of its halves. Where there is room it isn't refused.
 
 use Rattle.std.proofs.Common.{Err, inl, inr, ap, refl, subst}
-use Rattle.gem_spool.proofs.Putting.{lost_early, lost_late, not_full, put_done, put_failed, stage_failed}
+use Rattle.disk_base.specs.declared.disk.DiskAnswer.TheVariants.{Failed}
+use Rattle.gem_spool.proofs.Putting.{has_put, not_full, put_done, stage_failed}
 use Rattle.spool_slots.specs.Changes.{Stages}
 use Rattle.spool_slots.specs.Spool.{SpoolView}
 use Rattle.spool_slots.specs.declared.states.Staging.{Staging}
@@ -24,13 +25,9 @@ returns-in-Ok-seal g c =
 pub returns-in-Err : goal.returns-in-Err
 returns-in-Err g c =
     let m = c.args.message.now in (
-      put_failed g.D.Disk c.args.self.spool m.stream m.function m.body.now c.requires.fits c.in-Ok.staged
-          c.in-Ok.ensures
-          c.in-Err.spent c.in-Err.ensures,
+      has_put g.D.Disk c.args.self.spool m.stream m.function m.body.now c.requires.fits c.in-Ok.staged
+          c.in-Ok.ensures c.in-Err.spent.disk Failed c.in-Err.ensures.0,
       inr (c.in-Ok.staged, c.in-Ok.ensures, c.in-Err.ensures),
-      λ sure. lost_late g.D.Disk c.args.self.spool m.stream m.function m.body.now c.requires.fits c.in-Ok.staged
-          c.in-Ok.ensures
-          c.in-Err.spent c.in-Err.ensures sure,
     )
 
 pub returns-in-Err-Full : goal.returns-in-Err-Full
@@ -54,6 +51,4 @@ returns-in-Err-Failed g c =
       stage_failed g.D.Disk c.args.self.spool m.stream m.function m.body.now c.requires.fits c.in-Err-Failed.spent
           failed,
       inl failed,
-      λ sure. lost_early g.D.Disk c.args.self.spool m.stream m.function m.body.now c.requires.fits
-          c.in-Err-Failed.spent failed sure,
     )
