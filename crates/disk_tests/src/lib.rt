@@ -2,6 +2,8 @@
 #![tactic(auto)]
 
 #[cfg(test)]
+mod floors;
+#[cfg(test)]
 mod list_works;
 #[cfg(test)]
 mod memory_disk;

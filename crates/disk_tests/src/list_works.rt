@@ -1,6 +1,6 @@
 //! `gem_spool`: works carried out in a row, what a stop among them leaves, and the oldest message as it is read.
 
-use crate::spool_list::{formatted, leaves, with_two};
+use crate::spool_list::{formatted, leaves, with_one, with_two};
 use disk_base::{CutChoice, MemDisk};
 use gem_spool::{GemSpool, Room, Undone, Unread, Work};
 use gl_base::Row;
@@ -12,25 +12,55 @@ use std::test::Fail;
 type Stop = (u32, usize, (u32, u64), (u32, u64));
 
 // Of two messages, 1 and 2, in three slots: a put and a drop,
-static STOPS: [Stop; 6] = [
+static STOPS: [Stop; 7] = [
     (1, 0, (2, 1), (2, 1)),
     (2, 0, (2, 1), (2, 1)),
-    (3, 0, (2, 1), (3, 1)),
+    (3, 0, (2, 1), (2, 1)),
     (4, 0, (2, 1), (3, 1)),
-    (5, 1, (3, 1), (2, 2)),
+    (5, 0, (2, 1), (3, 1)),
     (6, 1, (3, 1), (2, 2)),
+    (7, 1, (3, 1), (2, 2)),
 ];
 
-// and then a purge of two, and a put.
-static LATER: [Stop; 8] = [
-    (7, 2, (2, 2), (1, 3)),
-    (8, 2, (2, 2), (1, 3)),
-    (9, 2, (1, 3), (0, 0)),
-    (10, 2, (1, 3), (0, 0)),
-    (11, 3, (0, 0), (0, 0)),
-    (12, 3, (0, 0), (0, 0)),
-    (13, 3, (0, 0), (1, 4)),
-    (14, 3, (0, 0), (1, 4)),
+// and then a purge of two, and a put into the slot that the drop has closed.
+static LATER: [Stop; 10] = [
+    (8, 2, (2, 2), (2, 2)),
+    (9, 2, (2, 2), (2, 2)),
+    (10, 2, (2, 2), (2, 2)),
+    (11, 2, (2, 2), (0, 4)),
+    (12, 2, (2, 2), (0, 4)),
+    (13, 3, (0, 4), (0, 4)),
+    (14, 3, (0, 4), (0, 4)),
+    (15, 3, (0, 4), (0, 4)),
+    (16, 3, (0, 4), (1, 4)),
+    (17, 3, (0, 4), (1, 4)),
+];
+
+// In one slot that holds a message: a drop and a put, and then a purge and a put. The first put looks at a gate that the
+// drop has closed, and the second at one that the purge has left open.
+static OVERWRITING: [Stop; 7] = [
+    (1, 0, (1, 0), (0, 0)),
+    (2, 0, (1, 0), (0, 0)),
+    (3, 1, (0, 0), (0, 0)),
+    (4, 1, (0, 0), (0, 0)),
+    (5, 1, (0, 0), (0, 0)),
+    (6, 1, (0, 0), (1, 1)),
+    (7, 1, (0, 0), (1, 1)),
+];
+
+static PURGED: [Stop; 12] = [
+    (8, 2, (1, 1), (1, 1)),
+    (9, 2, (1, 1), (1, 1)),
+    (10, 2, (1, 1), (1, 1)),
+    (11, 2, (1, 1), (0, 2)),
+    (12, 2, (1, 1), (0, 2)),
+    (13, 3, (0, 2), (0, 2)),
+    (14, 3, (0, 2), (0, 2)),
+    (15, 3, (0, 2), (0, 2)),
+    (16, 3, (0, 2), (0, 2)),
+    (17, 3, (0, 2), (0, 2)),
+    (18, 3, (0, 2), (1, 2)),
+    (19, 3, (0, 2), (1, 2)),
 ];
 
 // Carries them out. None where there aren't two messages and room for one more, or no memory.
@@ -67,13 +97,56 @@ fn carried(
     Some(spool.carry_out(&works))
 }
 
-// Whether a crash after a stop leaves so many, from this number on.
-fn stops_so(alloc: Global, stop: &Stop, choice: CutChoice, left: (u32, u64)) -> bool {
-    let Some(mut spool) = with_two(alloc) else {
-        return false;
+// Overwrites in one slot, purges and puts, likewise.
+fn overwritten(
+    alloc: Global,
+    spool: GemSpool<MemDisk>,
+) -> Option<Result<GemSpool<MemDisk>, Undone<MemDisk>>> {
+    let (Ok(body), Ok(last)) = (Row::of(alloc, &[1, 0]), Row::of(alloc, &[33, 0])) else {
+        return None;
     };
-    spool.arm(stop.0);
-    match carried(alloc, spool) {
+    if spool.len() != 1 {
+        return None;
+    }
+    if spool.next() > 100 {
+        return None;
+    }
+    let works = [
+        Work::DropOldest,
+        Work::Put {
+            stream: 6,
+            function: 11,
+            body,
+        },
+        Work::Purge,
+        Work::Put {
+            stream: 5,
+            function: 1,
+            body: last,
+        },
+    ];
+    Some(spool.carry_out(&works))
+}
+
+// What the works come to, those in one slot or the others, where the disk stops at a call.
+fn ended(
+    alloc: Global,
+    call: u32,
+    in_one: bool,
+) -> Option<Result<GemSpool<MemDisk>, Undone<MemDisk>>> {
+    if in_one {
+        let mut spool = with_one(alloc)?;
+        spool.arm(call);
+        return overwritten(alloc, spool);
+    }
+    let mut spool = with_two(alloc)?;
+    spool.arm(call);
+    carried(alloc, spool)
+}
+
+// Whether a crash after a stop leaves so many, from this number on.
+fn stops_so(alloc: Global, in_one: bool, stop: &Stop, choice: CutChoice, left: (u32, u64)) -> bool {
+    match ended(alloc, stop.0, in_one) {
         Some(Err(undone)) => {
             undone.at == stop.1 && leaves(alloc, &undone.spent.into_disk(), choice, left.0, left.1)
         }
@@ -81,12 +154,12 @@ fn stops_so(alloc: Global, stop: &Stop, choice: CutChoice, left: (u32, u64)) -> 
     }
 }
 
-fn stop_so(alloc: Global, stops: &[Stop]) -> bool {
+fn stop_so(alloc: Global, in_one: bool, stops: &[Stop]) -> bool {
     for stop in stops {
-        if !stops_so(alloc, stop, CutChoice::Old, stop.2) {
+        if !stops_so(alloc, in_one, stop, CutChoice::Old, stop.2) {
             return false;
         }
-        if !stops_so(alloc, stop, CutChoice::New, stop.3) {
+        if !stops_so(alloc, in_one, stop, CutChoice::New, stop.3) {
             return false;
         }
     }
@@ -96,8 +169,16 @@ fn stop_so(alloc: Global, stops: &[Stop]) -> bool {
 #[test]
 fn a_stop_leaves_the_works_before_it(rt: HostRuntime) -> Result<(), Fail> {
     let alloc = rt.alloc();
-    assert!(rt; stop_so(alloc, &STOPS));
-    assert!(rt; stop_so(alloc, &LATER));
+    assert!(rt; stop_so(alloc, false, &STOPS));
+    assert!(rt; stop_so(alloc, false, &LATER));
+    Ok(())
+}
+
+#[test]
+fn one_gate_serves_many_works(rt: HostRuntime) -> Result<(), Fail> {
+    let alloc = rt.alloc();
+    assert!(rt; stop_so(alloc, true, &OVERWRITING));
+    assert!(rt; stop_so(alloc, true, &PURGED));
     Ok(())
 }
 
@@ -119,10 +200,7 @@ fn reads_none(alloc: Global, spool: &mut GemSpool<MemDisk>, why: Unread) -> bool
 
 // Whether all are done where the disk goes on, so that the last message alone stands.
 fn all_done(alloc: Global) -> bool {
-    let Some(spool) = with_two(alloc) else {
-        return false;
-    };
-    match carried(alloc, spool) {
+    match ended(alloc, 0, false) {
         Some(Ok(mut spool)) => {
             reads(alloc, &mut spool, (5, 1), &[33, 0])
                 && spool.next() == 5

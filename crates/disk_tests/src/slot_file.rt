@@ -19,7 +19,7 @@ fn formatted(alloc: Global) -> Option<Spool<MemDisk>> {
 }
 
 // Puts an S6F11, and hands the disk back where that wasn't done.
-fn put(spool: Spool<MemDisk>) -> Result<Spool<MemDisk>, MemDisk> {
+pub(crate) fn put(spool: Spool<MemDisk>) -> Result<Spool<MemDisk>, MemDisk> {
     let message = Stored {
         stream: 6,
         function: 11,
@@ -77,12 +77,13 @@ fn put_leaves(alloc: Global, call: u32, choice: CutChoice, len: u32) -> bool {
 fn a_put_is_done_with_its_gate(rt: HostRuntime) -> Result<(), Fail> {
     let alloc = rt.alloc();
     assert!(rt; put_leaves(alloc, 1, CutChoice::New, 1));
-    assert!(rt; put_leaves(alloc, 2, CutChoice::Fill(0x5A), 1));
-    assert!(rt; put_leaves(alloc, 3, CutChoice::Old, 1));
-    assert!(rt; put_leaves(alloc, 3, CutChoice::New, 2));
-    assert!(rt; put_leaves(alloc, 4, CutChoice::Fill(0xA5), 1));
-    assert!(rt; put_leaves(alloc, 4, CutChoice::First(1), 2));
-    assert!(rt; put_leaves(alloc, 5, CutChoice::Old, 2));
+    assert!(rt; put_leaves(alloc, 2, CutChoice::New, 1));
+    assert!(rt; put_leaves(alloc, 3, CutChoice::Fill(0x5A), 1));
+    assert!(rt; put_leaves(alloc, 4, CutChoice::Old, 1));
+    assert!(rt; put_leaves(alloc, 4, CutChoice::New, 2));
+    assert!(rt; put_leaves(alloc, 5, CutChoice::Fill(0xA5), 1));
+    assert!(rt; put_leaves(alloc, 5, CutChoice::First(1), 2));
+    assert!(rt; put_leaves(alloc, 6, CutChoice::Old, 2));
     Ok(())
 }
 
@@ -137,7 +138,7 @@ fn a_reserve_is_done_with_its_gate(rt: HostRuntime) -> Result<(), Fail> {
 }
 
 // Whether a body of so many bytes is refused, and why: (full, too long, numbers spent).
-fn refuses(spool: Spool<MemDisk>, body: &[u8]) -> (bool, bool, bool) {
+pub(crate) fn refuses(spool: Spool<MemDisk>, body: &[u8]) -> (bool, bool, bool) {
     let message = Stored {
         stream: 6,
         function: 11,
@@ -153,7 +154,7 @@ fn refuses(spool: Spool<MemDisk>, body: &[u8]) -> (bool, bool, bool) {
 }
 
 // A spool of three slots after so many puts.
-fn filled(alloc: Global, puts: u32) -> Option<Spool<MemDisk>> {
+pub(crate) fn filled(alloc: Global, puts: u32) -> Option<Spool<MemDisk>> {
     let Some(mut spool) = formatted(alloc) else {
         return None;
     };
@@ -208,7 +209,7 @@ fn what_has_no_room_is_refused(rt: HostRuntime) -> Result<(), Fail> {
 }
 
 // The spool of a new file of three slots with some bytes at a place.
-fn with_bytes(alloc: Global, at: u64, bytes: &[u8]) -> Option<Spool<MemDisk>>
+pub(crate) fn with_bytes(alloc: Global, at: u64, bytes: &[u8]) -> Option<Spool<MemDisk>>
     requires { length bytes.now ≤ 100 }
 {
     let Some(spool) = formatted(alloc) else {

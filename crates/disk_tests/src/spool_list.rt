@@ -1,4 +1,4 @@
-//! `gem_spool`: each call of the spool as a change of its list, and what a purge leaves where it stops.
+//! `gem_spool`: each call of the spool as a change of its list, and that a purge leaves all or nothing where it stops.
 
 use disk_base::{CutChoice, Disk, MemDisk, settle};
 use gem_spool::{GemSpool, PutAnswer, Room};
@@ -38,6 +38,8 @@ static ROWS: [Row; 8] = [
     (Work::Confirm(1), Came::Confirmed(false), 0, 3),
     (Work::Confirm(0), Came::Confirmed(true), 1, 2),
 ];
+
+static FIRST: [Row; 1] = [(Work::Put, Came::Put(PutAnswer::Stored(0)), 0, 1)];
 
 // And from there on.
 static LATER: [Row; 7] = [
@@ -129,6 +131,17 @@ pub(crate) fn with_two(alloc: Global) -> Option<GemSpool<MemDisk>> {
     match formatted(alloc) {
         Some(spool) => behind(spool, &ROWS),
         None => None,
+    }
+}
+
+// A spool of one slot, which holds number 0.
+pub(crate) fn with_one(alloc: Global) -> Option<GemSpool<MemDisk>> {
+    let Ok(disk) = MemDisk::new(alloc, 8192, 100, 65536) else {
+        return None;
+    };
+    match Raw::new(disk).format(1) {
+        Ok(spool) => behind(GemSpool::new(spool), &FIRST),
+        Err(_) => None,
     }
 }
 
@@ -292,10 +305,12 @@ fn purge_leaves(alloc: Global, call: u32, choice: CutChoice, len: u32, first: u6
 }
 
 #[test]
-fn a_purge_loses_the_first_ones_first(rt: HostRuntime) {
+fn a_purge_takes_all_or_none(rt: HostRuntime) {
     let alloc = rt.alloc();
-    assert!(rt; purge_leaves(alloc, 2, CutChoice::Old, 2, 1));
-    assert!(rt; purge_leaves(alloc, 3, CutChoice::Old, 1, 2));
-    assert!(rt; purge_leaves(alloc, 4, CutChoice::New, 0, 0));
-    assert!(rt; purge_leaves(alloc, 5, CutChoice::Old, 0, 0));
+    assert!(rt; purge_leaves(alloc, 3, CutChoice::New, 2, 1));
+    assert!(rt; purge_leaves(alloc, 4, CutChoice::Fill(0x5A), 2, 1));
+    assert!(rt; purge_leaves(alloc, 4, CutChoice::New, 0, 3));
+    assert!(rt; purge_leaves(alloc, 5, CutChoice::Old, 2, 1));
+    assert!(rt; purge_leaves(alloc, 5, CutChoice::Fill(0xA5), 0, 3));
+    assert!(rt; purge_leaves(alloc, 6, CutChoice::Old, 0, 3));
 }

@@ -1,4 +1,4 @@
-//! Puts messages into a spool file, or recovers it again and again, so that a script of bench/ can time it.
+//! Puts messages into a spool file, purges it, or recovers it again and again, so that a script of bench/ can time it.
 #![tactic(auto)]
 
 use disk_base::{Disk, DiskAnswer};
@@ -19,6 +19,7 @@ fn main(rt: HostRuntime) -> io::Result<ExitCode> {
     let mut disk = FileDisk::new(&rt);
     let messages = match work.as_str() {
         "put" => put_again(&mut disk, file.as_str(), turns),
+        "purge" => purge(&mut disk, file.as_str()),
         _ => recover_again(&mut disk, file.as_str(), turns),
     };
     match messages {
@@ -50,6 +51,12 @@ fn with_message<D: Disk + Drop>(spool: Spool<D>) -> Option<Spool<D>> {
         Ok(staged) => staged.seal().ok(),
         Err(_) => None,
     }
+}
+
+// Takes all messages off the spool file of this name, and says how many are left.
+fn purge<D: Disk>(disk: &mut D, file: &str) -> Option<u32> {
+    let spool = recovered(disk, file)?;
+    Some(spool.clear().ok()?.len())
 }
 
 // Recovers the spool file of this name so many times, and says how many messages it has.

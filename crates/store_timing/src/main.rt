@@ -202,13 +202,15 @@ fn first_slot(disk: &mut MemDisk) -> Option<[u8; SLOT_SIZE]> {
     Some(slot)
 }
 
-// Writes the message of a slot under this number into the slot for it, as a spool does: four calls. Its gate comes
-// last, and is its first byte.
+// Writes the message of a slot under this number into the slot for it, as a spool does: five calls. Its gate is its first
+// byte: it is read first, and comes last.
 fn write_message(disk: &mut MemDisk, number: u32, slot: &mut [u8; SLOT_SIZE]) -> Option<()> {
     let at = slot_place(number);
     if disk.size() < at + SLOT_SIZE as u64 {
         return None;
     }
+    let mut gate = [0];
+    done(disk.read(at, &mut gate))?;
     slot[1..9].copy_from_slice(&u64::from(number).to_be_bytes());
     let length = u32::from_be_bytes([slot[11], slot[12], slot[13], slot[14]]).min(BODY_MOST);
     done(settle(disk, at + 1, &slot[1..15 + length as usize]))?;

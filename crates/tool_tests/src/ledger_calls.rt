@@ -96,6 +96,17 @@ static LAST: [Asking; 3] = [
     ),
 ];
 
+// Of one whose floor has come to the end of the numbers.
+static SPENT: [Asking; 2] = [
+    (Asked::StoreOver, b"!", 9_223_372_036_854_775_808, 0),
+    (
+        Asked::StoreTooLong,
+        b"toolong S6F11 W;",
+        9_223_372_036_854_775_808,
+        0,
+    ),
+];
+
 // What is told besides the notes.
 fn aside(stopped: Result<(), Stop>) -> Result<&'static [u8], NoMemory> {
     match stopped {
@@ -215,7 +226,8 @@ fn is_emptied(alloc: Global) -> bool {
 
 fn ends(alloc: Global) -> bool {
     let mut ledger = Ledger::new(alloc, 3, 9_223_372_036_854_775_807, 0);
-    all_go(alloc, &mut ledger, &LAST)
+    let mut spent = Ledger::new(alloc, 3, 9_223_372_036_854_775_808, 0);
+    all_go(alloc, &mut ledger, &LAST) && all_go(alloc, &mut spent, &SPENT)
 }
 
 fn is_text(text: Option<WaitingText>, bytes: &[u8]) -> bool {
