@@ -7,6 +7,7 @@ REPORTED = ["host send S2F33 W <L <U4 1> <L <L <U4 10> <L <U4 1> <U4 2>>>>>", "s
             "host send S2F35 W <L <U4 2> <L <L <U4 1> <L <U4 10>>>>>", "settle",
             "host send S2F37 W <L <BOOLEAN 01> <L>>", "settle"]
 SPOOLED = ["host send S6F23 W <U1 0>", "settle"]
+PURGED = ["host send S6F23 W <U1 1>", "settle"]
 
 # What a host may ask for else. Some of it is refused, some wants more room than one block has.
 TABLES = ["S2F33 W <L <U4 1> <L <L <U4 11> <L <U4 1>>>>>", "S2F33 W <L <U4 1> <L>>",
@@ -173,7 +174,7 @@ class Drawing:
     def loss(self):
         rng, pick = self.rng, self.rng.choice
         choice = pick(["old", "new", "new", "fill 5A", f"fill {rng.randrange(256):02X}", f"first {rng.randrange(3)}"])
-        ways = [self.line, self.events, lambda: ["settle"], lambda: SPOOLED, self.unload, self.failure]
+        ways = [self.line, self.events, lambda: ["settle"], lambda: SPOOLED, lambda: PURGED, self.unload, self.failure]
         lines = list(pick(ways)())
-        lines.insert(rng.randrange(len(lines)), f"cut {pick([1, 1, 2, 2, 3, 3, 4, 4, 5, 6, 8])} {choice}")
+        lines.insert(rng.randrange(len(lines)), f"cut {pick([1, 1, 2, 2, 3, 3, 4, 4, 5, 5, 6, 7, 8, 12])} {choice}")
         return lines + pick([["settle", *REPORTED], ["settle", *REPORTED], ["settle"], []])

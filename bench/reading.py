@@ -4,10 +4,11 @@
    taken once. A request never has the system bytes of an earlier one of the same end, whatever start sent that.
 2. A report has the values that its variables had at its event. What an unload sends is what was stored. S6F5 tells the
    length of what it asks leave for.
-3. A start of the tool finds in its spool what stood there, in order. A message that was leaving may be gone, and one
-   that was being stored may stand last. The first that stands is the one that leaves: confirmed where the host has
-   taken it, purged where the host has just asked for that, overwritten where the constant says so and each slot is
-   used.
+3. A start of the tool finds in its spool what stood there, in order. A message that was leaving may be gone, or all of
+   them by a purge, and one that was being stored may stand last: which of both is so the call of the disk at which
+   power went decides, and what became of the byte written there (keeping.py). The first that stands is the one that
+   leaves: confirmed where the host has taken it, purged where the host has just asked for that, overwritten where the
+   constant says so and each slot is used. Each message that is stored has the next number.
 4. The host takes what was stored in order, each perhaps more than once in a row, and skips only what was purged or
    overwritten.
 5. S2F24 has the code that is due to its S2F23. An S6F1 has the values that its variables had at the samples of a trace
@@ -22,6 +23,7 @@ it leaves. Nor does it say whether a request without W was accepted, which is ju
 import copy
 import tomllib
 
+from keeping import Cut, File
 from spelling import headed, leave_for, list_of, parsed, spelled, u4
 from tracing import MOVES, Tracing, moments_of
 
@@ -51,19 +53,21 @@ class Plan:
 
 
 class Commands:
-    """The values and texts that a schedule gives to one start of the tool, in order."""
+    """What a schedule gives to one start of the tool: values and texts, in order, and the loss of power at its end, with
+    the number of the line before which that comes."""
 
     def __init__(self):
-        self.sets, self.texts = [], []
+        self.sets, self.texts, self.cut, self.place = [], [], None, None
 
 
 def starts_of(plan, schedule):
     """What each start of the tool is told: the event behind a `cut` is the last one of its start."""
     starts, is_cut = [Commands()], False
-    for line in schedule.splitlines():
+    for place, line in enumerate(schedule.splitlines()):
         words = line.split(" ", 3)
         if words[0] == "cut":
             is_cut = True
+            starts[-1].cut = Cut(words[1:])
         elif line and line[0] != "#":
             if words[:2] == ["tool", "set"]:
                 variable, (kind, value) = int(words[2]), spelled(words[3])
@@ -73,6 +77,7 @@ def starts_of(plan, schedule):
                 terminal = headed("B", 1, bytes([int(words[2])]))
                 starts[-1].texts.append(list_of([terminal, spelled(words[3])[1]]))
             if is_cut:
+                starts[-1].place = place
                 starts.append(Commands())
                 is_cut = False
     return starts
@@ -158,6 +163,9 @@ class Reading:
         self.starts = starts_of(self.plan, schedule)
         self.moments = moments_of(schedule)[::-1]   # those that are still to come, the next one last
         self.broken, self.losses, self.now = [], 0, 0
+        self.counted = None                         # the calls of the disk before the last loss, in its event
+        self.file = File(self.plan.slots)
+        self.begins = []                            # of each event in which power goes, the lines before it, where known
         self.sent = {"E": set(), "H": set()}        # of all starts
         self.requests = {"E": set(), "H": set()}    # the system bytes of the requests among them
         self.received = {"E": set(), "H": set()}    # system bytes and kind, of one start
@@ -172,6 +180,8 @@ class Reading:
         self.commands = self.starts[min(self.losses, len(self.starts) - 1)]
         self.tables = Tables(self.plan)
         self.tracing = Tracing(self.plan)
+        self.calls = None                           # of the disk, in an event in which power goes
+        self.aside, self.is_short = ASIDE, False    # system bytes; whether the next step sets more aside
         self.is_communicating, self.is_online = False, self.plan.control in ONLINE
         self.unanswered = set()                     # the system bytes of what waits for a reply
         self.base = self.drawn = 0                  # the first system bytes, and those behind the last
@@ -189,11 +199,19 @@ class Reading:
         if why:
             self.breaks(why)
 
-    def read(self, trace):
-        """All that the lines of a trace break."""
+    def places(self):
+        """Of each event in which power goes, how many lines of the schedule stand before it."""
+        return [start.place for start in self.starts[:-1]]
+
+    def read(self, trace, begins=()):
+        """All that the lines of a trace break. Where it is told how many of them stand before each event in which power
+        goes, the calls of the disk are counted from there."""
+        self.begins = begins
         for self.at, self.line in enumerate(trace, 1):
             now, *words = self.line.split(" ")
             self.to_moment(int(now))
+            if self.losses < len(begins) and self.at == begins[self.losses] + 1:
+                self.calls = 0
             if words[0] == "end":
                 self.breaks_by(self.tracing.missing())
                 if self.losses != len(self.starts) - 1:
@@ -209,6 +227,8 @@ class Reading:
                 self.moving = None
             if side == "E" and self.silent:
                 self.judge(kind)
+            if side == "E" and self.is_short and kind not in ("power", "start"):
+                self.set_aside()
             try:
                 getattr(self, f"{'tool' if side == 'E' else 'host'}_{kind}", lambda *words: None)(*words)
             except (IndexError, KeyError, TypeError, ValueError):
@@ -216,6 +236,8 @@ class Reading:
             if side == "E":
                 if kind not in ("event", "alarm", "leaving", "gone"):
                     self.made = None
+                if kind == "tx":
+                    self.is_short = self.drawn - self.base > self.aside - FEW
                 self.before = [kind, *words]
         return self.broken
 
@@ -264,31 +286,71 @@ class Reading:
             if self.taken != due[:len(self.taken)]:
                 self.breaks(f"the host takes {numbers(self.taken)} where {numbers(due)} is the order")
 
-    # Power.
+    # Power, and the disk.
+
+    def carry_out(self, work):
+        calls = self.file.carry_out(work)
+        if self.calls is not None:
+            self.calls += calls
+
+    def set_aside(self):
+        """A step begins with this where few system bytes were left behind the one before it."""
+        self.carry_out("reserve")
+        self.aside, self.is_short = self.aside + ASIDE, False
+
+    def work(self):
+        kind, put = self.moving
+        return "put" if kind == "storing" else "purge" if put.why == "purged" else "drop"
 
     def tool_power(self):
         self.losses += 1
         # It may go before the samples have their lines, while a message is stored or system bytes are set aside.
         missing, is_moving = self.tracing.missing(), self.before and self.before[0] in MOVES
-        if not is_moving and (self.drawn - self.base) % ASIDE <= ASIDE - FEW:
+        if not is_moving and not self.is_short:
             self.breaks_by(missing)
+        if self.calls is not None:
+            self.lose(self.commands.cut)
+        self.counted = self.calls
+
+    def lose(self, cut):
+        """Power goes at a call of the disk, behind those that were counted in its event, or at the event's end."""
+        if self.is_short and self.file.lose("reserve", cut.call - self.calls, cut):
+            return
+        if self.is_short:
+            self.calls += 5
+        call = cut.call - self.calls
+        if call < 1 or self.moving and not self.file.lose(self.work(), call, cut):
+            self.breaks(f"this is no loss at call {cut.call}, for {self.calls} are made before")
+
+    def guess(self, found, base):
+        """Where calls aren't counted, what a start finds says whether a work was done."""
+        if self.moving and found != len(self.standing):
+            self.file.carry_out(self.work())
+        if self.is_short and base != self.file.mark.value:
+            self.file.carry_out("reserve")
 
     def tool_start(self, found, base):
-        found, stood = int(found[len("len="):]), len(self.standing)
-        if self.moving:
-            kind, put = self.moving
-            if kind == "storing" and found == stood + 1:
-                self.standing.append(put)
-            elif kind == "storing":
-                self.puts.remove(put)
-            elif found < stood:
-                self.leave(put.why, stood - found)
-        if found != len(self.standing):
-            self.breaks(f"{stood} stood in the spool")
+        found, base = int(found[len("len="):]), int(base[len("base="):])
+        if self.calls is None:
+            self.guess(found, base)
+        kind, put = self.moving or (None, None)
+        standing = self.file.standing()
+        if kind == "storing" and put.number in standing:
+            self.standing.append(put)
+        elif kind == "storing":
+            self.puts.remove(put)
+        elif kind == "leaving":
+            self.leave(put.why, len(self.standing) - len(standing))
+        if found != len(standing) or numbers(self.standing) != standing:
+            self.breaks(f"{standing} are to stand in the spool, and {numbers(self.standing)} stood")
             self.standing = self.standing[:found]
+        if base != self.file.mark.value:
+            self.breaks(f"{self.file.mark.value} system bytes were set aside")
+        self.file.start()
+        self.file.carry_out("reserve")
         self.moving = None
         self.begin()
-        self.base = self.drawn = int(base[len("base="):])
+        self.base = self.drawn = base
 
     # Values, and what is made of them.
 
@@ -431,11 +493,14 @@ class Reading:
         if not message or message.name != name:
             self.breaks(f"{message.name if message else 'nothing'} is to be stored here")
             message = Message(name, None)
+        if int(number) != self.file.next:
+            self.breaks(f"its number is {self.file.next}")
         self.puts.append(Put(int(number), message))
         self.moving = ("storing", self.puts[-1])
 
     def tool_stored(self, number):
         if self.ends("storing", number):
+            self.carry_out("put")
             self.standing.append(self.moving[1])
         self.moving = None
 
@@ -456,11 +521,13 @@ class Reading:
 
     def tool_gone(self, number):
         if self.ends("leaving", number):
+            self.carry_out(self.work())
             why = self.moving[1].why
             self.leave(why, len(self.standing) if why == "purged" else 1)
         self.moving = None
 
     def tool_try(self, number, system):
+        self.carry_out("read")
         if self.is_first(number):
             self.tries[system] = self.standing[0]
 

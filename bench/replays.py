@@ -14,6 +14,8 @@ class Replays:
     def __init__(self, gemline, folder):
         self.gemline, self.folder, self.done, self.broken = gemline, folder, 0, 0
         self.counts = dict.fromkeys(COUNTED, 0)
+        self.front = None, 0                        # the plan and the start of a schedule that ran last, and its lines
+        self.calls = None                           # of the disk, before the last loss of the last trace in its event
 
     def run(self, plan, schedule):
         """The lines of the trace, and the status."""
@@ -27,7 +29,10 @@ class Replays:
     def read(self, name, plan, schedule):
         """Runs one, says what its trace breaks, and answers the trace."""
         trace, status = self.run(plan, schedule)
-        broken = Reading(plan, schedule).read(trace)
+        reading, lines = Reading(plan, schedule), schedule.splitlines(keepends=True)
+        begins = [self.length(plan, "".join(lines[:place])) for place in reading.places()]
+        broken = reading.read(trace, begins)
+        self.calls = reading.counted
         wanted = 76 if is_slip(trace[-1:]) else 0
         if status != wanted:
             broken.append(f"status {status} where {wanted} is wanted")
@@ -44,6 +49,12 @@ class Replays:
                     out.write(text)
             print(f"{name}, kept in {kept}:", *broken[:3], sep="\n    ", flush=True)
         return trace
+
+    def length(self, plan, schedule):
+        """How many lines the start of a schedule gives, without the last one."""
+        if self.front[0] != (plan, schedule):
+            self.front = (plan, schedule), len(self.run(plan, schedule)[0]) - 1
+        return self.front[1]
 
     def tell(self):
         counts = ", ".join(f"{count} {word}" for word, count in self.counts.items())
