@@ -10,6 +10,7 @@ import subprocess
 import tempfile
 
 from ends import free_port, is_listening, wait_for
+from frames import frame
 from reading import Plan
 
 EXAMPLES = os.path.join(os.path.dirname(os.path.abspath(__file__)), "..", "examples")
@@ -50,11 +51,14 @@ def replays(name, plan, schedule, status=0):
                 schedule=example(schedule))
 
 
+# Two messages of two blocks by turns, one block twice; a second block without a first; and 17 messages that are open.
+BLOCKS = [(1, 1), (2, 1), (2, 1), (1, 2), (2, 2), (3, 2), *[(system, 1) for system in range(9, 26)]]
+SHOWN = b"".join(frame(6, 11, system, b"A", number, number == 2) for system, number in BLOCKS)
 SPOOL, LISTED = example("spools/two-messages.spool"), example("spools/two-messages.out").decode().splitlines()
 EQUIPMENT = Case("equipment", ["equipment", "plan", "", "spool"], TOOL, plan=PLAN, spool=SPOOL)
 OTHER_END = Case("host", ["host", "plan", ""], HOST, plan=PLAN)
 CASES = [
-    Case("show", ["show"], example("captures/crowded.bin")),
+    Case("show", ["show"], SHOWN),
     Case("spell", ["spell"], example("items/nested.text")),
     Case("spell --hex", ["spell", "--hex"], example("hex/nested.hex")),
     replays("a handshake", "schedules/empty.plan", "schedules/first-message.schedule"),
@@ -69,6 +73,11 @@ CASES = [
     EQUIPMENT,
     OTHER_END,
 ]
+
+
+def chosen(names):
+    """The cases of these names, or all."""
+    return [case for case in CASES if case.name in names or not names]
 
 
 class Ran:
