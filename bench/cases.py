@@ -27,7 +27,7 @@ text = "HOT"
 alid = 8
 text = "DOOR"
 """
-TOOL = b"500 alarm 7 set\n500 alarm 8 set\n3000 alarm 7 clear\n3500 stop\n"
+TOOL = b"500 alarm 7 set\n500 alarm 8 set\n3000 alarm 7 clear\n4500 stop\n"
 HOST = b"1000 send S6F23 W <U1 0>\n2000 send S6F23 W <U1 1>\n9000 stop\n"
 # The texts of the statuses, of those that come where something fails.
 TEXTS = {66: "66 file {}", 68: "68 read", 69: "69 link", 71: "71 memory", 73: "73 write", 74: "74 disk"}
