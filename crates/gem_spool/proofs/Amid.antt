@@ -14,9 +14,9 @@ use Rattle.gem_spool.specs.Works.{standing_after, standings_after, unstale}
 use Rattle.gem_spool.specs.declared.spool.GemSpool.{GemSpool}
 use Rattle.gem_spool.specs.declared.works.Work.{Work}
 use Rattle.gem_spool.specs.declared.works.Work.TheVariants as work
+use Rattle.spool_file.specs.File.{SpoolFile, StandsFor, file_in}
+use Rattle.spool_file.specs.Slot.{Message}
 use Rattle.spool_slots.specs.Changes.{Clears, HoldsThrough, IsSameOr, cleared_in, dropped_in, with_shut}
-use Rattle.spool_slots.specs.File.{SpoolFile, StandsFor, file_in}
-use Rattle.spool_slots.specs.Slot.{Message}
 use Rattle.spool_slots.specs.Spool.{SpoolView}
 use Rattle.spool_slots.specs.declared.states.Spent.{Spent}
 use Rattle.spool_slots.proofs.Stale.{shut_same_file}

@@ -22,14 +22,15 @@ use Rattle.gem_spool.specs.Spool.{HasPut, put_calls}
 use Rattle.gem_spool.specs.Standing.{Standing, Stands, count_in, count_of, file_told}
 use Rattle.gem_spool.specs.Works.{Does, bytes_of, calls_of, is_stale, updates_of, next_place, oldest_in, purge_updates}
 use Rattle.gem_spool.specs.Works.{unstale}
+use Rattle.spool_file.specs.File.{SpoolFile, is_open_at}
+use Rattle.spool_file.specs.Front.{floor_cell}
+use Rattle.spool_file.specs.Logs.{MakesAll, written_by}
+use Rattle.spool_file.specs.Slot.{Message, slot_place}
+use Rattle.spool_file.proofs.Making.{makes_none}
 use Rattle.spool_slots.specs.Changes.{Clears, HasDropped, MovesFloor, cleared_in, parts_of}
-use Rattle.spool_slots.specs.File.{SpoolFile, is_open_at}
-use Rattle.spool_slots.specs.Front.{floor_cell}
-use Rattle.spool_slots.specs.Logs.{MakesAll, written_by}
-use Rattle.spool_slots.specs.Slot.{Message, slot_place}
 use Rattle.spool_slots.specs.Spool.{SpoolView, first_slot, known_of, next_slot}
 use Rattle.spool_slots.specs.declared.states.Spent.{Spent}
-use Rattle.spool_slots.proofs.Making.{length_copy, makes_moved, makes_none, makes_settled, settle_calls}
+use Rattle.spool_slots.proofs.Settling.{length_copy, makes_moved, makes_settled, settle_calls}
 
 -- ---- the calls of the updates
 

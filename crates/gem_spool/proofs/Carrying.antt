@@ -24,8 +24,8 @@ use Rattle.gem_spool.specs.Works.{all_bytes, all_calls, bytes_of, calls_of, coun
 use Rattle.gem_spool.specs.Works.{lists_after, next_after, standing_after, standings_after}
 use Rattle.gem_spool.specs.declared.spool.GemSpool.{GemSpool}
 use Rattle.gem_spool.specs.declared.works.Work.{Work}
-use Rattle.spool_slots.specs.File.{StandsFor}
-use Rattle.spool_slots.specs.Slot.{Message}
+use Rattle.spool_file.specs.File.{StandsFor}
+use Rattle.spool_file.specs.Slot.{Message}
 use Rattle.spool_slots.specs.declared.states.Spent.{Spent}
 
 calls_more : (st : Standing) (xs : List Work) (one : Work) →

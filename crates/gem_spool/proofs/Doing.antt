@@ -14,14 +14,13 @@ use Rattle.gem_spool.specs.Works.{list_after, next_after, standing_after, standi
 use Rattle.gem_spool.specs.declared.spool.GemSpool.{GemSpool}
 use Rattle.gem_spool.specs.declared.works.Work.{Work}
 use Rattle.gem_spool.specs.declared.works.Work.TheVariants as work
-use Rattle.spool_slots.proofs.Evens.{even_rest, one_slot}
-use Rattle.spool_slots.proofs.Runs.{chain_last}
+use Rattle.spool_file.proofs.Evens.{even_rest, one_slot}
+use Rattle.spool_file.proofs.Runs.{chain_last}
 use Rattle.gem_spool.proofs.Lists.{clear_list, clear_told, drop_list, drop_told, put_list, put_told}
-use Rattle.spool_slots.specs.Changes.{Clears, Ends, cleared_in, dropped_in, with_floor_moved, with_message}
-use Rattle.spool_slots.specs.Changes.{without_first}
-use Rattle.spool_slots.specs.File.{SpoolFile, file_in}
-use Rattle.spool_slots.specs.Run.{IsChainFrom, slots_for}
-use Rattle.spool_slots.specs.Slot.{Message}
+use Rattle.spool_file.specs.File.{Ends, SpoolFile, file_in}
+use Rattle.spool_file.specs.Run.{IsChainFrom, slots_for}
+use Rattle.spool_file.specs.Slot.{Message}
+use Rattle.spool_slots.specs.Changes.{Clears, cleared_in, dropped_in, with_floor_moved, with_message, without_first}
 use Rattle.spool_slots.specs.Spool.{SpoolView}
 
 -- ---- numbers

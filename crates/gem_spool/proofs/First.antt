@@ -10,12 +10,12 @@ use Rattle.gem_spool.specs.Spool.{HasList}
 use Rattle.gem_spool.specs.Standing.{Standing, Stands, count_of}
 use Rattle.gem_spool.specs.declared.kept.Kept.{Kept}
 use Rattle.gem_spool.specs.declared.kept.Unread.{Unread}
+use Rattle.spool_file.specs.File.{file_in}
+use Rattle.spool_file.specs.Run.{IsChainFrom}
+use Rattle.spool_file.specs.Slot.{Message, message_of, slot_in, slot_place}
+use Rattle.spool_file.specs.declared.slot.SlotHead.{SlotHead}
 use Rattle.spool_slots.specs.Changes.{IsFound, Looks}
-use Rattle.spool_slots.specs.File.{file_in}
-use Rattle.spool_slots.specs.Run.{IsChainFrom}
-use Rattle.spool_slots.specs.Slot.{Message, message_of, slot_in, slot_place}
 use Rattle.spool_slots.specs.Spool.{Rests, SpoolView, in_hand, known_of}
-use Rattle.spool_slots.specs.declared.slot.SlotHead.{SlotHead}
 use Rattle.spool_slots.specs.declared.states.OldestAnswer.{OldestAnswer}
 use Rattle.spool_slots.specs.declared.states.OldestAnswer.TheVariants as oldest
 use Rattle.gem_spool.proofs.Stays.{same_chain, same_even}

@@ -2,7 +2,6 @@ pub mod Amid
 pub mod Answered
 pub mod Called
 pub mod Carrying
-mod Covering
 pub mod Doing
 pub mod First
 pub mod Lists

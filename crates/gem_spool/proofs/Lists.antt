@@ -7,9 +7,9 @@ use Rattle.disk_base.proofs.Told.{told_already}
 use Rattle.gem_spool.specs.Spool.{HasList, numbered, room_for}
 use Rattle.gem_spool.specs.declared.spool.Room.TheVariants.{Fits}
 use Rattle.gem_spool.proofs.Putting.{put_ends}
+use Rattle.spool_file.specs.File.{SpoolFile, file_in}
+use Rattle.spool_file.specs.Slot.{Message}
 use Rattle.spool_slots.specs.Changes.{Clears, Drops, Looks, MovesMark, Reserves, Seals, Stages}
-use Rattle.spool_slots.specs.File.{SpoolFile, file_in}
-use Rattle.spool_slots.specs.Slot.{Message}
 use Rattle.spool_slots.specs.Spool.{SpoolView}
 use Rattle.spool_slots.specs.declared.states.OldestAnswer.{OldestAnswer}
 use Rattle.spool_slots.specs.declared.states.OldestAnswer.TheVariants as oldest

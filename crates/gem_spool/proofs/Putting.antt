@@ -10,15 +10,16 @@ use Rattle.disk_base.specs.declared.disk.DiskAnswer.TheVariants.{Done, Failed}
 use Rattle.disk_base.proofs.Moments.{through_both, through_more}
 use Rattle.gem_spool.specs.Spool.{HasPut, IsPutting, StagesAndSeals, numbered, put_in, room_for}
 use Rattle.gem_spool.specs.declared.spool.Room.TheVariants.{Fits}
-use Rattle.spool_slots.specs.Changes.{Ends, HasSealed, HoldsThrough, IsSameOr, Seals, Stages, parts_of, sealed_in}
-use Rattle.spool_slots.specs.Changes.{shut_in, stage_calls, with_message, with_shut}
-use Rattle.spool_slots.specs.File.{SpoolFile, StandsFor, file_in}
-use Rattle.spool_slots.specs.Logs.{MakesAll}
-use Rattle.spool_slots.specs.Slot.{Message, slot_place}
+use Rattle.spool_file.specs.File.{Ends, SpoolFile, StandsFor, file_in}
+use Rattle.spool_file.specs.Logs.{MakesAll}
+use Rattle.spool_file.specs.Slot.{Message, slot_place}
+use Rattle.spool_file.proofs.Making.{makes_before, makes_then}
+use Rattle.spool_slots.specs.Changes.{HasSealed, HoldsThrough, IsSameOr, Seals, Stages, parts_of, sealed_in, shut_in}
+use Rattle.spool_slots.specs.Changes.{stage_calls, with_message, with_shut}
 use Rattle.spool_slots.specs.Spool.{SpoolView, in_hand, known_of, next_slot}
 use Rattle.spool_slots.specs.declared.states.Spent.{Spent}
 use Rattle.spool_slots.specs.declared.states.Staging.TheVariants as staging
-use Rattle.spool_slots.proofs.Making.{makes_before, makes_settled, makes_then, settle_calls}
+use Rattle.spool_slots.proofs.Settling.{makes_settled, settle_calls}
 
 -- where there is room, a slot is free
 pub not_full : {D : Type 0} (v : SpoolView D) (body : List ℕ) → room_for v (length body) ≡ Fits → v.len ≡ v.slots → ⊥

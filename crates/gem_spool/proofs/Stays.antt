@@ -10,13 +10,12 @@ use Rattle.disk_base.proofs.Moments.{only_now, starts, through_more}
 use Rattle.gem_spool.specs.Standing.{Standing, Stands, blanks, count_of, file_told, standing_of}
 use Rattle.gem_spool.specs.Works.{IsMarked, reserved}
 use Rattle.gem_spool.proofs.Lists.{reserve_told}
-use Rattle.spool_slots.specs.Changes.{Ends, HasMoved, IsSameOr, Moves, MovesMark, Reserves, reserved_in}
-use Rattle.spool_slots.specs.Changes.{with_mark_moved}
-use Rattle.spool_slots.specs.File.{SpoolFile, StandsFor, file_in}
-use Rattle.spool_slots.specs.Run.{IsChainFrom, slots_for}
+use Rattle.spool_file.specs.File.{Ends, SpoolFile, StandsFor, file_in}
+use Rattle.spool_file.specs.Run.{IsChainFrom, slots_for}
+use Rattle.spool_file.specs.declared.recovery.Known.{Known}
+use Rattle.spool_file.proofs.Evens.{one_slot}
+use Rattle.spool_slots.specs.Changes.{HasMoved, IsSameOr, Moves, MovesMark, Reserves, reserved_in, with_mark_moved}
 use Rattle.spool_slots.specs.Spool.{Rests, SpoolView, in_hand, known_of}
-use Rattle.spool_slots.specs.declared.recovery.Known.{Known}
-use Rattle.spool_slots.proofs.Evens.{one_slot}
 use Rattle.spool_slots.specs.declared.states.Reserving.TheVariants as reserving
 use Rattle.spool_slots.specs.declared.states.Spent.{Spent}
 

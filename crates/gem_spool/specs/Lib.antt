@@ -1,6 +1,3 @@
-pub mod Laws
-pub mod Reply
-pub mod Rule
 pub mod Spool
 pub mod Standing
 pub mod Updates

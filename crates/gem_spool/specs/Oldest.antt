@@ -7,11 +7,11 @@ use Rattle.disk_base.specs.declared.disk.DiskAnswer.TheVariants as answer
 use Rattle.gem_spool.specs.declared.kept.Kept.{Kept}
 use Rattle.gem_spool.specs.declared.kept.Unread.{Unread}
 use Rattle.gem_spool.specs.declared.kept.Unread.TheVariants as unread
+use Rattle.spool_file.specs.File.{file_in}
+use Rattle.spool_file.specs.Slot.{Message}
+use Rattle.spool_file.specs.declared.slot.SlotHead.{SlotHead}
 use Rattle.spool_slots.specs.Changes.{HasLooked}
-use Rattle.spool_slots.specs.File.{file_in}
-use Rattle.spool_slots.specs.Slot.{Message}
 use Rattle.spool_slots.specs.Spool.{SpoolView, first_slot}
-use Rattle.spool_slots.specs.declared.slot.SlotHead.{SlotHead}
 
 -- the message of the list, which has this number
 abbrev pub message_in : ℕ → Kept → Message

@@ -13,11 +13,11 @@ use Rattle.gem_spool.specs.declared.spool.PutAnswer.{PutAnswer}
 use Rattle.gem_spool.specs.declared.spool.PutAnswer.TheVariants as answer
 use Rattle.gem_spool.specs.declared.spool.Room.{Room}
 use Rattle.gem_spool.specs.declared.spool.Room.TheVariants as room
-use Rattle.spool_slots.specs.Changes.{Clears, Drops, Ends, HoldsThrough, IsSameOr, Reserves, Seals, Stages, parts_of}
-use Rattle.spool_slots.specs.Changes.{shut_in, stage_calls, with_message}
-use Rattle.spool_slots.specs.File.{SpoolFile, StandsFor, file_in, is_open_at}
-use Rattle.spool_slots.specs.Logs.{MakesAll}
-use Rattle.spool_slots.specs.Slot.{Message, slot_place}
+use Rattle.spool_file.specs.File.{Ends, SpoolFile, StandsFor, file_in, is_open_at}
+use Rattle.spool_file.specs.Logs.{MakesAll}
+use Rattle.spool_file.specs.Slot.{Message, slot_place}
+use Rattle.spool_slots.specs.Changes.{Clears, Drops, HoldsThrough, IsSameOr, Reserves, Seals, Stages, parts_of, shut_in}
+use Rattle.spool_slots.specs.Changes.{stage_calls, with_message}
 use Rattle.spool_slots.specs.Spool.{SpoolView, in_hand, known_of, next_slot}
 use Rattle.spool_slots.specs.declared.states.Dropping.TheVariants as dropping
 use Rattle.spool_slots.specs.declared.states.Reserving.TheVariants as reserving

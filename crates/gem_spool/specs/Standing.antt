@@ -3,12 +3,11 @@ use Rattle.std.specs.Prelude.{◌≡◌, ℕ, zero, suc, ◌+◌, false, List, [
 use Rattle.disk_base.specs.Story.{Story}
 use Rattle.disk_base.specs.declared.disk.Disk as disk
 use Rattle.gem_spool.specs.declared.count.Count.{Count}
-use Rattle.spool_slots.specs.Changes.{Ends}
-use Rattle.spool_slots.specs.File.{SpoolFile, file_in}
-use Rattle.spool_slots.specs.Run.{IsChainFrom}
-use Rattle.spool_slots.specs.Slot.{Message}
+use Rattle.spool_file.specs.File.{Ends, SpoolFile, file_in}
+use Rattle.spool_file.specs.Run.{IsChainFrom}
+use Rattle.spool_file.specs.Slot.{Message}
+use Rattle.spool_file.specs.declared.recovery.Known.{Known}
 use Rattle.spool_slots.specs.Spool.{SpoolView, known_of}
-use Rattle.spool_slots.specs.declared.recovery.Known.{Known}
 
 -- the numbers that decide what can be done
 abbrev pub count_of : {D : Type 0} → SpoolView D → Count

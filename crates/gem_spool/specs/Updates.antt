@@ -5,7 +5,7 @@ use Rattle.disk_base.specs.declared.cut.CutChoice.{CutChoice}
 use Rattle.disk_base.specs.declared.disk.DiskAnswer.TheVariants.{Done}
 use Rattle.gate_cell.specs.Cell.{Cell, copy_bytes, gate_byte, spare_place}
 use Rattle.gem_spool.specs.Standing.{Standing}
-use Rattle.spool_slots.specs.File.{SpoolFile, StandsFor}
+use Rattle.spool_file.specs.File.{SpoolFile, StandsFor}
 use Rattle.spool_slots.specs.Losses.{closes, file_left, gate_counts, names_spare, opens}
 
 -- ---- the updates of a work

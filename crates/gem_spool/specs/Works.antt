@@ -21,12 +21,12 @@ use Rattle.gem_spool.specs.declared.spool.Room.TheVariants as room
 use Rattle.gem_spool.specs.declared.works.Undone.{Undone}
 use Rattle.gem_spool.specs.declared.works.Work.{Work}
 use Rattle.gem_spool.specs.declared.works.Work.TheVariants as work
-use Rattle.spool_slots.specs.Area.{first_of}
+use Rattle.spool_file.specs.Area.{first_of}
+use Rattle.spool_file.specs.File.{SpoolFile, StandsFor, is_open_at}
+use Rattle.spool_file.specs.Front.{floor_cell}
+use Rattle.spool_file.specs.Logs.{written_by}
+use Rattle.spool_file.specs.Slot.{Message, slot_place}
 use Rattle.spool_slots.specs.Changes.{Drops, parts_of, with_mark_moved, with_shut}
-use Rattle.spool_slots.specs.File.{SpoolFile, StandsFor, is_open_at}
-use Rattle.spool_slots.specs.Front.{floor_cell}
-use Rattle.spool_slots.specs.Logs.{written_by}
-use Rattle.spool_slots.specs.Slot.{Message, slot_place}
 use Rattle.spool_slots.specs.declared.states.Dropping.TheVariants as dropping
 use Rattle.spool_slots.specs.declared.states.Spent.{Spent}
 

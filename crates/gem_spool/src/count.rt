@@ -5,7 +5,7 @@ ghost use Rattle.std.specs.Prelude.{◌≡◌};
 ghost use Rattle.gem_spool.specs.Spool.{room_in};
 
 use crate::spool::Room;
-use spool_slots::{BODY_MOST, NUMBERS};
+use spool_file::{BODY_MOST, NUMBERS};
 
 /// What decides whether there is room, without the disk. Who decides on more than one change keeps one of his own.
 #[derive(Clone, Copy, Debug, PartialEq, Eq)]

@@ -5,12 +5,13 @@ ghost use Rattle.disk_base.specs.Story.{Story};
 ghost use Rattle.gem_spool.specs.Oldest.{KeepsOf, ReadsOldest, message_in};
 ghost use Rattle.gem_spool.specs.Spool.{HasList};
 ghost use Rattle.gem_spool.specs.Standing.{Standing, Stands};
-ghost use Rattle.spool_slots.specs.Slot.{Message};
+ghost use Rattle.spool_file.specs.Slot.{Message};
 
 use crate::spool::GemSpool;
 use disk_base::Disk;
 use gl_base::Row;
-use spool_slots::{BODY_MOST, OldestAnswer, SLOT_SIZE, SlotHead};
+use spool_file::{BODY_MOST, SLOT_SIZE, SlotHead};
+use spool_slots::OldestAnswer;
 use std::alloc::Global;
 
 /// A message as it was put.

@@ -11,13 +11,14 @@ ghost use Rattle.gem_spool.specs.Works.{standing_after, standing_after_confirm, 
 ghost use Rattle.gem_spool.specs.Works.{standing_after_reserve};
 ghost use Rattle.gem_spool.specs.declared.works.Work.TheVariants.{Purge};
 ghost use Rattle.gem_spool.specs.declared.spool.Room.TheVariants.{Fits};
+ghost use Rattle.spool_file.specs.Slot.{Message};
 ghost use Rattle.spool_slots.specs.Changes.{Looks};
-ghost use Rattle.spool_slots.specs.Slot.{Message};
 ghost use Rattle.spool_slots.specs.Spool.{Rests, known_of};
 
 use crate::count::Count;
 use disk_base::{Disk, MemDisk};
-use spool_slots::{Dropping, OldestAnswer, Reserving, SLOT_SIZE, Spent, Spool, Staging, Stored};
+use spool_file::SLOT_SIZE;
+use spool_slots::{Dropping, OldestAnswer, Reserving, Spent, Spool, Staging, Stored};
 
 /// The spool of the equipment: a list of messages with their numbers, which a power loss leaves whole, and whether it
 /// is active.

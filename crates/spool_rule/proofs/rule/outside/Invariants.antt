@@ -1,8 +1,8 @@
 -- The functions outside so far, with those of the functions that are left, are all.
 
 use Rattle.std.proofs.Common.{◌≡◌, ◌++◌, drop, filter}
-use Rattle.gem_spool.specs.Rule.{is_outside}
-use Rattle.gem_spool.proofs.rule.outside.Given as goal
+use Rattle.spool_rule.specs.Rule.{is_outside}
+use Rattle.spool_rule.proofs.rule.outside.Given as goal
 
 abbrev pub invariant-loop-function : goal.invariant-loop-function
 invariant-loop-function l =

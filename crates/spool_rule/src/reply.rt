@@ -1,7 +1,7 @@
 //! The body of S2F44.
 
 ghost use Rattle.std.specs.Prelude.{◌≡◌, IfOk, map};
-ghost use Rattle.gem_spool.specs.Reply.{byte_item, fault_item, reply_item, reply_with};
+ghost use Rattle.spool_rule.specs.Reply.{byte_item, fault_item, reply_item, reply_with};
 
 use crate::rule::{RuleAnswer, RuleFault};
 use gem_shapes::{code_item, pair_item};

@@ -1,10 +1,10 @@
 -- The law, by the lemmas of `Covering`.
 
 use Rattle.std.proofs.Common.{◌∙◌, ap}
-use Rattle.gem_spool.specs.Laws.{entries_at}
-use Rattle.gem_spool.specs.Rule.{covered}
-use Rattle.gem_spool.proofs.Covering.{covered_as_named, rule_stands}
-use Rattle.gem_spool.proofs.laws.the_rule_is_looked_back_for.Goals as goal
+use Rattle.spool_rule.specs.Laws.{entries_at}
+use Rattle.spool_rule.specs.Rule.{covered}
+use Rattle.spool_rule.proofs.Covering.{covered_as_named, rule_stands}
+use Rattle.spool_rule.proofs.laws.the_rule_is_looked_back_for.Goals as goal
 
 pub returns : goal.returns
 returns c = record {

@@ -3,9 +3,9 @@ use Rattle.std.specs.Prelude.{ℕ, List, [], ◌∷◌, map}
 use Rattle.secs_items.specs.declared.item.Item.{Item}
 use Rattle.secs_items.specs.declared.item.Item.TheVariants as item
 use Rattle.gem_shapes.specs.Answers.{code_item, pair_item}
-use Rattle.gem_spool.specs.declared.rule.RuleAnswer.{RuleAnswer}
-use Rattle.gem_spool.specs.declared.rule.RuleAnswer.TheVariants.{Rejected, Replaced}
-use Rattle.gem_spool.specs.declared.rule.RuleFault.{RuleFault}
+use Rattle.spool_rule.specs.declared.rule.RuleAnswer.{RuleAnswer}
+use Rattle.spool_rule.specs.declared.rule.RuleAnswer.TheVariants.{Rejected, Replaced}
+use Rattle.spool_rule.specs.declared.rule.RuleFault.{RuleFault}
 
 -- STRID and FCNID: U1 of one element (the format is this profile's)
 abbrev pub byte_item : ℕ → Item

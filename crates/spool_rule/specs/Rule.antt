@@ -3,10 +3,10 @@ use Rattle.std.specs.Prelude.{ℕ, ◌%◌, ◌==◌, ◌||◌, ◌&&◌, not, n
 use Rattle.std.specs.Prelude.{None, if◌then◌else◌}
 use Rattle.std.specs.List.{filter_map, list_any}
 use Rattle.gem_shapes.specs.declared.entries.RuleEntry.{RuleEntry}
-use Rattle.gem_spool.specs.declared.rule.RuleAnswer.{RuleAnswer}
-use Rattle.gem_spool.specs.declared.rule.RuleAnswer.TheVariants.{Rejected, Replaced}
-use Rattle.gem_spool.specs.declared.rule.RuleFault.{RuleFault}
-use Rattle.gem_spool.specs.declared.rule.SpoolRule.{SpoolRule}
+use Rattle.spool_rule.specs.declared.rule.RuleAnswer.{RuleAnswer}
+use Rattle.spool_rule.specs.declared.rule.RuleAnswer.TheVariants.{Rejected, Replaced}
+use Rattle.spool_rule.specs.declared.rule.RuleFault.{RuleFault}
+use Rattle.spool_rule.specs.declared.rule.SpoolRule.{SpoolRule}
 
 -- the primaries that can be spooled: S5F1, S6F11 and S10F1 (this profile)
 abbrev pub is_spoolable : ℕ → ℕ → Bool

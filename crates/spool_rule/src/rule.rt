@@ -1,8 +1,8 @@
 //! Which primaries are spooled, and how S2F43 replaces that, with its bad entries and their STRACK.
 
 ghost use Rattle.std.specs.Prelude.{◌≡◌, IfOk, OnErr, filter};
-ghost use Rattle.gem_spool.specs.Rule.{answer_of, covered, fault_of, fault_with, faults_of, is_named, is_unknown};
-ghost use Rattle.gem_spool.specs.Rule.{is_outside, is_secondary, is_spoolable, is_unspooled, names, rule_by, rule_of};
+ghost use Rattle.spool_rule.specs.Rule.{answer_of, covered, fault_of, fault_with, faults_of, is_named, is_unknown};
+ghost use Rattle.spool_rule.specs.Rule.{is_outside, is_secondary, is_spoolable, is_unspooled, names, rule_by, rule_of};
 
 use gem_shapes::RuleEntry;
 use gl_base::{NoMemory, Row};

@@ -3,10 +3,10 @@ use Rattle.std.proofs.Common.{◌≡◌, refl, sym, ◌∙◌, ap, ℕ, Bool, tr
 use Rattle.std.specs.Prelude.{◌==◌}
 use Rattle.std.proofs.lemmas.Bool.{and_parts, eqb-true}
 use Rattle.gem_shapes.specs.declared.entries.RuleEntry.{RuleEntry}
-use Rattle.gem_spool.specs.declared.rule.RuleAnswer.{RuleAnswer}
-use Rattle.gem_spool.specs.declared.rule.RuleAnswer.TheVariants.{Rejected, Replaced}
-use Rattle.gem_spool.specs.Laws.{accepted_by, entries_at, rule_at}
-use Rattle.gem_spool.specs.Rule.{answer_of, covered, covers, is_named, rule_by, rule_of}
+use Rattle.spool_rule.specs.declared.rule.RuleAnswer.{RuleAnswer}
+use Rattle.spool_rule.specs.declared.rule.RuleAnswer.TheVariants.{Rejected, Replaced}
+use Rattle.spool_rule.specs.Laws.{accepted_by, entries_at, rule_at}
+use Rattle.spool_rule.specs.Rule.{answer_of, covered, covers, is_named, rule_by, rule_of}
 use Rattle.std.specs.Option.{unwrap_or}
 
 -- what is said behind a test may stand for what is the same where the test passes

@@ -1,10 +1,10 @@
 -- What holds of the rule of spooling after every history of S2F43. The newest one stands first.
 use Rattle.std.specs.Prelude.{◌≡◌, ℕ, List, [], ◌∷◌, Option, Some, None}
 use Rattle.gem_shapes.specs.declared.entries.RuleEntry.{RuleEntry}
-use Rattle.gem_spool.specs.declared.rule.RuleAnswer.{RuleAnswer}
-use Rattle.gem_spool.specs.declared.rule.RuleAnswer.TheVariants.{Rejected, Replaced}
-use Rattle.gem_spool.specs.declared.rule.SpoolRule.{SpoolRule}
-use Rattle.gem_spool.specs.Rule.{answer_of, covered, covers, rule_after, rule_of}
+use Rattle.spool_rule.specs.declared.rule.RuleAnswer.{RuleAnswer}
+use Rattle.spool_rule.specs.declared.rule.RuleAnswer.TheVariants.{Rejected, Replaced}
+use Rattle.spool_rule.specs.declared.rule.SpoolRule.{SpoolRule}
+use Rattle.spool_rule.specs.Rule.{answer_of, covered, covers, rule_after, rule_of}
 use Rattle.gem_tables.specs.History.{newest}
 
 -- the entries of an S2F43 that is accepted
