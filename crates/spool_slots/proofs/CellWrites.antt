@@ -1,17 +1,16 @@
 -- What writing another value of a cell leaves at each moment, and its calls.
-use Rattle.std.proofs.Common.{◌≡◌, ℕ, ◌+◌, Bool, not, List, [], ◌∷◌, Option, Some, None, sym, ap, subst, ◌∙◌, inl, inr}
+use Rattle.std.proofs.Common.{◌≡◌, ℕ, ◌+◌, ◌<◌, ◌≤◌, Bool, not, List, [], ◌∷◌, Option, Some, None, sym, ap, subst, ◌∙◌, inl, inr}
 use Rattle.disk_base.specs.Story.{Story}
 use Rattle.disk_base.specs.Settle.{LogsBoth}
 use Rattle.disk_base.specs.Through.{GoesThrough}
-use Rattle.disk_base.specs.Calls.{DiskCall, read_call}
+use Rattle.disk_base.specs.Calls.{DiskCall}
 use Rattle.disk_base.specs.declared.disk.DiskAnswer.{DiskAnswer}
 use Rattle.disk_base.specs.declared.disk.DiskAnswer.TheVariants.{Done, Failed}
 use Rattle.disk_base.proofs.Moments.{now_is, through_more}
-use Rattle.disk_base.proofs.Stretches.{both_wider, logs_wider}
+use Rattle.disk_base.proofs.Stretches.{both_wider}
 use Rattle.gate_cell.proofs.Values.{commits_behind, committed_behind}
 use Rattle.gate_cell.specs.Cell.{Cell, cell_in, gate_byte, with_value}
 use Rattle.gate_cell.specs.Holds.{Holds, HoldsEither}
-use Rattle.gate_cell.specs.Calls.{LogsPreparing}
 use Rattle.gate_cell.specs.Ready.{Commits, IsCommitted, IsReady, Prepares}
 use Rattle.spool_slots.specs.Changes.{HasValue}
 
@@ -46,12 +45,8 @@ module _ (s t : Story) (at value there : ℕ) (mid : Option Story) (is_at : ther
   )
 
 -- its calls
-pub preparing_wider : (s : Story) (at value : ℕ) (C E : Type 0) (before after : Option (List DiskCall)) → (C → E) →
-    LogsPreparing s at value C before after Failed → LogsPreparing s at value E before after Failed
-preparing_wider s at value C E before after more (inl is) = inl (logs_wider (read_call (at + 16) 1) C E before after more is)
-preparing_wider s at value C E before after more (inr is) = inr (both_wider _ _ C E _ after Failed more is)
-
-pub gate_calls : (s : Story) (at there : ℕ) (second : Bool) (C E : Type 0) (mid after : Option (List DiskCall)) (answer : DiskAnswer) → (C → E) → there ≡ at →
+pub gate_calls : (s : Story) (at there : ℕ) (second : Bool) (C E : ℕ → ℕ → Type 0) (mid after : Option (List DiskCall)) (answer : DiskAnswer) →
+    ((made n : ℕ) → made < 2 → n ≤ 1 → C made n → E made n) → there ≡ at →
     second ≡ not (cell_in s.now.bytes at).second → LogsBoth (there + 16) (gate_byte second ∷ []) C mid after answer →
     LogsBoth (at + 16) (gate_byte (not (cell_in s.now.bytes at).second) ∷ []) E mid after answer
 gate_calls s at there second C E mid after answer more is_at is logs =

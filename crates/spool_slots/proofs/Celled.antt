@@ -7,19 +7,20 @@ use Rattle.disk_base.proofs.Moments.{over_but}
 use Rattle.gate_cell.specs.Cell.{Cell, cell_in, with_value}
 use Rattle.gate_cell.specs.Holds.{Holds}
 use Rattle.gate_cell.specs.Ready.{IsCell}
-use Rattle.spool_slots.specs.Area.{or_else}
+use Rattle.spool_file.specs.Area.{or_else}
+use Rattle.spool_file.specs.File.{SpoolFile, StandsFor, area_break, file_in, floor_in, gates_below, list_below}
+use Rattle.spool_file.specs.File.{slots_in, spool_break}
+use Rattle.spool_file.specs.Front.{floor_cell, front_break, front_in, front_size, mark_cell}
+use Rattle.spool_file.specs.Slot.{Message, Slot, slot_in, stands_on}
+use Rattle.spool_file.specs.declared.recovery.Known.{Known}
+use Rattle.spool_file.proofs.Firsts.{both_none}
+use Rattle.spool_file.proofs.Fresh.{made_file}
+use Rattle.spool_file.proofs.Fronts.{each_slot, floor_is, front_of, front_sound, mark_is, same_cell, same_long}
+use Rattle.spool_file.proofs.Fronts.{same_slots, twelve}
+use Rattle.spool_file.proofs.Gapless.{IsWhole, all_absent, end_most, none_break, none_held, sound_of}
 use Rattle.spool_slots.specs.Changes.{IsSame, cleared_in, reserved_in, with_mark}
-use Rattle.spool_slots.specs.File.{SpoolFile, StandsFor, area_break, file_in, floor_in, gates_below, list_below}
-use Rattle.spool_slots.specs.File.{slots_in, spool_break}
-use Rattle.spool_slots.specs.Front.{floor_cell, front_break, front_in, front_size, mark_cell}
-use Rattle.spool_slots.specs.Slot.{Message, Slot, slot_in, stands_on}
 use Rattle.spool_slots.specs.Spool.{Rests}
-use Rattle.spool_slots.specs.declared.recovery.Known.{Known}
-use Rattle.spool_slots.proofs.Firsts.{both_none}
-use Rattle.spool_slots.proofs.Fronts.{each_slot, floor_is, front_of, front_sound, mark_is, same_cell, same_long}
-use Rattle.spool_slots.proofs.Fronts.{same_slots, twelve}
-use Rattle.spool_slots.proofs.Gapless.{IsWhole, all_absent, end_most, none_break, none_held, sound_of}
-use Rattle.spool_slots.proofs.Moves.{kept, listed, made_file}
+use Rattle.spool_slots.proofs.Moves.{kept, listed}
 
 -- the file of so many slots
 abbrev file_with : (ℕ → Slot) → (mark floor : Cell) → ℕ → SpoolFile

@@ -1,18 +1,19 @@
--- A spool of what was found.
+-- A spool of what was found, and one of a new file.
 use Rattle.std.proofs.Common.{◌≡◌, ℕ, ◌≤◌, List, [], length, Option, Some, None, refl, sym, ap, subst, ◌∙◌, arith}
 use Rattle.std.specs.Option.{option_map}
 use Rattle.disk_base.specs.Story.{Story, with_sync}
 use Rattle.disk_base.specs.declared.disk.Disk as disk
-use Rattle.spool_slots.specs.Area.{first_of}
-use Rattle.spool_slots.specs.File.{area_break, file_in, floor_in, slots_in}
-use Rattle.spool_slots.specs.Front.{front_break, front_in}
-use Rattle.spool_slots.specs.Reading.{KnownFits, KnownIs}
-use Rattle.spool_slots.specs.Run.{IsChainFrom}
-use Rattle.spool_slots.specs.Slot.{slot_in, slot_place}
+use Rattle.spool_file.specs.Area.{first_of}
+use Rattle.spool_file.specs.File.{Ends, SpoolFile, area_break, file_in, floor_in, slots_in}
+use Rattle.spool_file.specs.Format.{empty_file}
+use Rattle.spool_file.specs.Front.{front_break, front_in}
+use Rattle.spool_file.specs.Reading.{KnownFits, KnownIs}
+use Rattle.spool_file.specs.Run.{IsChainFrom}
+use Rattle.spool_file.specs.Slot.{slot_in, slot_place}
+use Rattle.spool_file.specs.declared.recovery.Known.{Known}
+use Rattle.spool_file.proofs.Firsts.{both_none}
+use Rattle.spool_file.proofs.Gapless.{first_low, sound_kept}
 use Rattle.spool_slots.specs.Spool.{IsSpool, Rests, in_hand}
-use Rattle.spool_slots.specs.declared.recovery.Known.{Known}
-use Rattle.spool_slots.proofs.Firsts.{both_none}
-use Rattle.spool_slots.proofs.Gapless.{first_low, sound_kept}
 
 pub rests_of : (s : Story) (known : Known) → s.now.loose ≡ [] → slot_place known.slots ≤ length s.now.bytes →
     KnownIs s.now.bytes known →
@@ -61,4 +62,31 @@ spool_of members here known fits rests = record {
   numbers = omega (arith, fits.6, fits.5, fits.4, fits.1);
   mark_most = fits.3;
   rests = rests;
+}
+
+-- a new file is taken up
+pub empty_spool : {D : Type 0} (members : disk.Ghosts D) (d : D) (slots : ℕ) → 1 ≤ slots → slots ≤ 65535 →
+    slot_place slots ≤ members.size_is d →
+    ((t : Story) → members.told d ≡ Some t → Ends t (empty_file slots)) →
+    ((t : Story) → members.told d ≡ Some t → length t.now.bytes ≡ members.size_is d) →
+    IsSpool members (in_hand d (record { slots = slots; first = 0; next = 0; len = 0; mark = 0 }))
+empty_spool members d slots some most fits ends sized = record {
+  some = some;
+  most = most;
+  fits = fits;
+  room = omega arith;
+  even = omega arith;
+  numbers = omega arith;
+  mark_most = omega arith;
+  rests = λ t told. let is = (ends t told).stands.is in
+      record {
+        settled = (ends t told).settled;
+        sound = (ends t told).stands.sound;
+        inside = omega (arith, fits, sized t told);
+        slots_are = ap (λ (f : SpoolFile). f.slots) is;
+        mark_is = ap (λ (f : SpoolFile). f.mark.value) is;
+        low = subst (λ (f : SpoolFile). f.floor.value ≤ 0) is (omega arith);
+        chain = subst (λ (f : SpoolFile). IsChainFrom 0 0 f.list) is refl;
+        count = ap (λ (f : SpoolFile). length f.list) is;
+      };
 }

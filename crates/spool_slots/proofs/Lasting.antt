@@ -12,18 +12,19 @@ use Rattle.disk_base.specs.declared.disk.DiskAnswer.{DiskAnswer}
 use Rattle.disk_base.specs.declared.disk.DiskAnswer.TheVariants.{Done}
 use Rattle.disk_base.proofs.Moments.{settle_through, through_more}
 use Rattle.disk_base.proofs.Marks.{length-part}
-use Rattle.spool_slots.specs.Changes.{Drops, Ends, HasDropped, HasSealed, HasSettled, HoldsThrough, IsSame, IsSameOr}
-use Rattle.spool_slots.specs.Changes.{Seals, dropped_in, sealed_in, shut_in}
-use Rattle.spool_slots.specs.File.{SpoolFile, StandsFor, file_in, floor_in, list_below, slot_message, slot_stands}
+use Rattle.spool_file.specs.File.{Ends, SpoolFile, StandsFor, file_in, floor_in, list_below, slot_message, slot_stands}
+use Rattle.spool_file.specs.Run.{IsChainFrom}
+use Rattle.spool_file.specs.Slot.{is_open, message_of, slot_in, slot_place, stands_on}
+use Rattle.spool_file.specs.declared.recovery.Known.{Known}
+use Rattle.spool_file.proofs.Gapless.{good_is, good_width}
+use Rattle.spool_file.proofs.Gates.{stands_open}
+use Rattle.spool_file.proofs.Runs.{free, oldest}
+use Rattle.spool_slots.specs.Changes.{Drops, HasDropped, HasSealed, HasSettled, HoldsThrough, IsSame, IsSameOr, Seals}
+use Rattle.spool_slots.specs.Changes.{dropped_in, sealed_in, shut_in}
 use Rattle.spool_slots.specs.Losses.{file_left, opens}
-use Rattle.spool_slots.specs.Run.{IsChainFrom}
-use Rattle.spool_slots.specs.Slot.{is_open, message_of, slot_in, slot_place, stands_on}
 use Rattle.spool_slots.specs.Spool.{HasParts, IsSpool, IsStagedSpool, Rests, in_hand}
-use Rattle.spool_slots.specs.declared.recovery.Known.{Known}
-use Rattle.spool_slots.proofs.Gapless.{good_is, good_width}
 use Rattle.spool_slots.proofs.Moves.{close_chain, close_less, kept, listed, open_chain, open_more, parts_same}
-use Rattle.spool_slots.proofs.Moves.{shut_same, shut_stale, stands_open, still_same, width_there}
-use Rattle.spool_slots.proofs.Runs.{free, oldest}
+use Rattle.spool_slots.proofs.Moves.{shut_same, shut_stale, still_same, width_there}
 
 -- a write with its sync over settled bytes, of which any such part leaves P
 pub lasts : (before after : Option Story) (at : ℕ) (bytes : List ℕ) (answer : DiskAnswer)

@@ -4,16 +4,16 @@ use Rattle.std.proofs.lemmas.List.{drop-drop, drop-take, take-take}
 use Rattle.std.specs.List.{slice_get}
 use Rattle.disk_base.specs.Story.{Story, bytes_at}
 use Rattle.disk_base.specs.declared.disk.Disk as disk
+use Rattle.spool_file.specs.File.{file_in, floor_in, list_below, slot_message, slot_stands}
+use Rattle.spool_file.specs.Run.{IsRunFrom}
+use Rattle.spool_file.specs.Slot.{Message, head_of, slot_in, slot_place}
+use Rattle.spool_file.specs.declared.recovery.Known.{Known}
+use Rattle.spool_file.specs.declared.slot.SlotHead.{SlotHead}
+use Rattle.spool_file.proofs.Evens.{chain_run, run_there}
+use Rattle.spool_file.proofs.Runs.{found}
 use Rattle.spool_slots.specs.Changes.{IsFound}
-use Rattle.spool_slots.specs.File.{file_in, floor_in, list_below, slot_message, slot_stands}
-use Rattle.spool_slots.specs.Run.{IsRunFrom}
-use Rattle.spool_slots.specs.Slot.{Message, head_of, slot_in, slot_place}
 use Rattle.spool_slots.specs.Spool.{IsSpool, Rests, in_hand}
-use Rattle.spool_slots.specs.declared.recovery.Known.{Known}
-use Rattle.spool_slots.specs.declared.slot.SlotHead.{SlotHead}
-use Rattle.spool_slots.proofs.Evens.{chain_run, run_there}
 use Rattle.spool_slots.proofs.Moves.{kept, listed}
-use Rattle.spool_slots.proofs.Runs.{found}
 
 pub looked_on : {D : Type 0} (members : disk.Ghosts D) (d d' : D) (k : Known) → IsSpool members (in_hand d k) →
     members.told d' ≡ members.told d →

@@ -1,10 +1,10 @@
 -- What a crash leaves of a gate that was written and not synced.
 use Rattle.std.proofs.lemmas.Nat.{mod_below}
-use Rattle.std.proofs.Common.{◌≡◌, ℕ, if◌then◌else◌, ◌%◌, ◌<◌, ◌==◌, Bool, true, false, not, List, [], ◌∷◌, length}
+use Rattle.std.proofs.Common.{◌≡◌, ℕ, if◌then◌else◌, ◌+◌, ◌%◌, ◌<◌, ◌≤◌, ◌==◌, Bool, true, false, not, List, [], ◌∷◌, length}
 use Rattle.std.proofs.Common.{slice_index, Option, Some, None, refl, sym, ap, subst, ◌∙◌, arith, ⊎_elim}
 use Rattle.disk_base.specs.Calls.{DiskCall}
 use Rattle.disk_base.specs.Cut.{chosen_byte, image_of}
-use Rattle.disk_base.specs.Faults.{DiskHealth, IsCrowded}
+use Rattle.disk_base.specs.Faults.{DiskHealth, GoesAsListed, IsLeftOut, IsPlanned, IsUsed}
 use Rattle.disk_base.specs.Listed.{AsListed}
 use Rattle.disk_base.specs.Settle.{LogsBoth}
 use Rattle.disk_base.specs.Story.{Story, with_part, with_write}
@@ -12,19 +12,48 @@ use Rattle.disk_base.specs.declared.cut.CutChoice.{CutChoice}
 use Rattle.disk_base.specs.declared.cut.CutChoice.TheVariants.{Old, New, Fill, First}
 use Rattle.disk_base.specs.declared.disk.Disk as disk
 use Rattle.disk_base.specs.declared.disk.DiskAnswer.TheVariants.{Failed}
-use Rattle.disk_base.proofs.Stretches.{both_wider}
+use Rattle.disk_base.proofs.Stretches.{both_wider, left_out_behind, lists_on, planned_before, used_none}
+use Rattle.spool_file.specs.File.{SpoolFile, StandsFor, file_in, floor_in}
+use Rattle.spool_file.specs.Slot.{is_open, slot_in, slot_place, stands_on}
+use Rattle.spool_file.specs.declared.recovery.Known.{Known}
+use Rattle.spool_file.proofs.Gates.{stands_open}
 use Rattle.spool_slots.specs.Changes.{HasSettled, dropped_in, sealed_in}
-use Rattle.spool_slots.specs.File.{SpoolFile, StandsFor, file_in, floor_in}
 use Rattle.spool_slots.specs.Losses.{IsSure, LeavesByGate, LeavesByte, closes, file_left, gate_counts, opens}
-use Rattle.spool_slots.specs.Slot.{is_open, slot_in, slot_place, stands_on}
 use Rattle.spool_slots.specs.Spool.{IsSpool, IsStagedSpool, Rests, in_hand}
-use Rattle.spool_slots.specs.declared.recovery.Known.{Known}
 use Rattle.spool_slots.proofs.Lasting.{first_there}
-use Rattle.spool_slots.proofs.Moves.{close_less, open_more, shut_same, stands_open, still_same}
+use Rattle.spool_slots.proofs.Moves.{close_less, open_more, shut_same, still_same}
 
-pub not_crowded : (h : DiskHealth) (calls n : ℕ) → IsSure h calls n → IsCrowded h calls n → ⊥
-not_crowded h calls n sure =
-    ⊎_elim (λ less. omega (arith, less, sure.calls_fit)) (λ less. omega (arith, less, sure.bytes_fit))
+-- a call planned among some is planned among more
+pub planned_wider : (h : DiskHealth) (n all : ℕ) → n ≤ all → IsPlanned h n → IsPlanned h all
+planned_wider h n all less is = planned_before h h 0 0 (used_none h) n all (omega (arith, less)) is
+
+-- behind calls that were made
+pub sure_behind : (a b c : DiskHealth) (n x : ℕ) → IsUsed a b n x → (calls m all both : ℕ) → n + calls ≤ all →
+    x + m ≤ both → IsSure a c all both → IsSure b c calls m
+sure_behind a b c n x used calls m all both few short sure = record {
+  going = lists_on a b n x used sure.going;
+  listed = λ made k before less is. sure.listed (n + made) (x + k) (omega (arith, few, before)) (omega (arith, short, less))
+      (left_out_behind a b n x used c made k (n + made) (x + k) refl (omega arith) is);
+}
+
+-- a disk that has stopped has left none out
+pub sure_stopped : (a c : DiskHealth) → GoesAsListed a → c.stopped ≡ true → (calls n : ℕ) → IsSure a c calls n
+sure_stopped a c going stopped calls n = record {
+  going = going;
+  listed = λ made m before less is. both (sym is.going ∙ stopped) going.on;
+} where
+  both : a.stopped ≡ true → a.stopped ≡ false → ⊥
+  both one two = cc
+
+-- nor one that has room for the calls up to one that is to fail
+pub sure_up_to : (a c : DiskHealth) → GoesAsListed a → (place calls n : ℕ) → IsPlanned a place → place ≤ a.calls →
+    n ≤ a.room → IsSure a c calls n
+sure_up_to a c going place calls n planned fits enough = record {
+  going = going;
+  listed = λ made m before less is. ⊎_elim
+      (λ none. is.unplanned (planned_wider a place made (omega (arith, none, fits)) planned))
+      (λ none. omega (arith, none, less, enough)) is.crowded;
+}
 
 -- the byte that is left
 pub left_by : (means : ℕ → Bool) (choice : CutChoice) (old new : ℕ) → means old ≡ false → means new ≡ true →
@@ -45,7 +74,7 @@ story_or other (Some s) = s
 abbrev pub HasWrittenLaw : Type 0
 HasWrittenLaw = (s : Story) (at : ℕ) (bytes : List ℕ) (all : List DiskCall) (after : Option Story)
     (calls : Option (List DiskCall)) →
-    LogsBoth at bytes ⊥ (Some all) calls Failed → AsListed (Some s) (Some all) after calls →
+    LogsBoth at bytes (λ made n. ⊥) (Some all) calls Failed → AsListed (Some s) (Some all) after calls →
     after ≡ Some (with_write at bytes s)
 
 abbrev pub ChosenLaw : Type 0
@@ -53,19 +82,19 @@ ChosenLaw = (choice : CutChoice) (s : Story) (at byte : ℕ) → s.now.loose ≡
     image_of choice (with_write at (byte ∷ []) s) ≡ with_part s.now.bytes at
     (chosen_byte choice (slice_index s.now.bytes at) byte ∷ [])
 
--- one byte was written, on a disk that had room for it
+-- one byte was written, on a disk that lists its calls
 pub byte_left : HasWrittenLaw → ChosenLaw → {D : Type 0} (members : disk.Ghosts D) (d d' : D) (at byte : ℕ) →
     ((s : Story) → members.told d ≡ Some s → (all : List DiskCall) × (members.calls d ≡ Some all)) →
     ((s : Story) → members.told d ≡ Some s → s.now.loose ≡ []) →
     ((s : Story) → members.told d ≡ Some s → at < length s.now.bytes) →
-    HasSettled members d d' at (byte ∷ []) Failed → IsSure (members.health d) 2 1 →
+    HasSettled members d d' at (byte ∷ []) Failed → IsSure (members.health d) (members.health d') 2 1 →
     LeavesByte (members.told d) (members.told d') at byte
 byte_left has_written one_byte_left members d d' at byte called settled inside done sure s t told told' choice =
     let all = called s told in
-    let logs : LogsBoth at (byte ∷ []) ⊥ (Some all.0) (members.calls d') Failed =
-    subst (λ (o : Option (List DiskCall)). LogsBoth at (byte ∷ []) ⊥ o (members.calls d') Failed) all.1
-    (both_wider at (byte ∷ []) _ ⊥ (members.calls d) (members.calls d') Failed (not_crowded (members.health d) 2 1 sure)
-    done.calls) in
+    let logs : LogsBoth at (byte ∷ []) (λ made n. ⊥) (Some all.0) (members.calls d') Failed =
+    subst (λ (o : Option (List DiskCall)). LogsBoth at (byte ∷ []) (λ made n. ⊥) o (members.calls d') Failed) all.1
+    (both_wider at (byte ∷ []) (IsLeftOut (members.health d) (members.health d')) (λ made n. ⊥) (members.calls d)
+    (members.calls d') Failed sure.listed done.calls) in
     let listed : AsListed (Some s) (Some all.0) (members.told d') (members.calls d') =
     subst (λ (o : Option (List DiskCall)). AsListed (Some s) o (members.told d') (members.calls d')) all.1
     (subst (λ (o : Option Story). AsListed o (members.calls d) (members.told d') (members.calls d')) told
@@ -118,7 +147,8 @@ module _ (written : HasWrittenLaw) (left : ChosenLaw) {D : Type 0} (members : di
           shut_same s.now.bytes k.slots k.first k.next r.sound r.inside r.slots_are r.low r.chain slot below gate shut
           test
 
-    pub seal_loss : HasSettled members d d' (slot_place slot) (90 ∷ []) Failed → IsSure (members.health d) 2 1 →
+    pub seal_loss : HasSettled members d d' (slot_place slot) (90 ∷ []) Failed →
+        IsSure (members.health d) (members.health d') 2 1 →
         LeavesByGate (members.told d) (members.told d') opens (sealed_in slot)
     seal_loss done sure =
         by_byte (members.told d) (members.told d') (slot_place slot) 90 opens (sealed_in slot) shut refl
@@ -152,7 +182,8 @@ module _ (written : HasWrittenLaw) (left : ChosenLaw) {D : Type 0} (members : di
           close_less s.now.bytes k.slots k.first k.next rests.sound rests.inside rests.slots_are rests.low rests.chain
           oldest_slot there.0 gate there.1 there.2 test
 
-    pub drop_loss : HasSettled members d d' (slot_place oldest_slot) (0 ∷ []) Failed → IsSure (members.health d) 2 1 →
+    pub drop_loss : HasSettled members d d' (slot_place oldest_slot) (0 ∷ []) Failed →
+        IsSure (members.health d) (members.health d') 2 1 →
         LeavesByGate (members.told d) (members.told d') closes dropped_in
     drop_loss done sure =
         by_byte (members.told d) (members.told d') (slot_place oldest_slot) 0 closes dropped_in

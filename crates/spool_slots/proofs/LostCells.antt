@@ -3,7 +3,7 @@ use Rattle.std.proofs.Common.{◌≡◌, ℕ, ◌+◌, ◌≤◌, Bool, true, fa
 use Rattle.std.specs.Int.{w64, from_be_bytes}
 use Rattle.disk_base.specs.Calls.{DiskCall}
 use Rattle.disk_base.specs.Cut.{chosen_byte, image_of}
-use Rattle.disk_base.specs.Faults.{DiskHealth, GoesAsListed, IsCrowded, IsUsed}
+use Rattle.disk_base.specs.Faults.{DiskHealth, GoesAsListed, IsLeftOut, IsUsed}
 use Rattle.disk_base.specs.Images.{is_in, is_loose}
 use Rattle.disk_base.specs.Listed.{AsListed}
 use Rattle.disk_base.specs.Settle.{LogsBoth}
@@ -13,15 +13,15 @@ use Rattle.disk_base.specs.declared.cut.CutChoice.{CutChoice}
 use Rattle.disk_base.specs.declared.disk.DiskAnswer.TheVariants.{Done, Failed}
 use Rattle.disk_base.proofs.Marks.{beside, length-part, not_either}
 use Rattle.disk_base.proofs.Moments.{now_is}
-use Rattle.disk_base.proofs.Stretches.{both_wider, lists_on}
+use Rattle.disk_base.proofs.Stretches.{both_wider}
 use Rattle.gate_cell.specs.Cell.{Cell, cell_in, copy_of, copy_place, gate_byte, gate_of, names_second, with_value}
 use Rattle.gate_cell.specs.Holds.{Holds}
 use Rattle.gate_cell.specs.Ready.{HasSpare, IsReady, Prepares}
 use Rattle.gate_cell.proofs.Values.{others_behind, spare_now}
+use Rattle.spool_file.proofs.Fronts.{copy_in_cell}
+use Rattle.spool_file.proofs.Written.{at-taken, byte_beside, bytes_beside, part_at}
 use Rattle.spool_slots.specs.Losses.{IsSure, LeavesValue, cell_left, gate_counts, names_spare}
-use Rattle.spool_slots.proofs.Lost.{ChosenLaw, HasWrittenLaw, left_by, not_crowded}
-use Rattle.spool_slots.proofs.Fronts.{copy_in_cell}
-use Rattle.spool_slots.proofs.Written.{at-taken, byte_beside, bytes_beside, part_at}
+use Rattle.spool_slots.proofs.Lost.{ChosenLaw, HasWrittenLaw, left_by, sure_behind}
 
 -- a copy ends before the gate
 ends : (b : Bool) → copy_place b + 8 ≤ 16
@@ -152,20 +152,16 @@ module _ (s t : Story) (at value : ℕ) (second : Bool) (prepared : Prepares s a
       })
 
 -- the same of the calls that came into the list
-pub lost_late : HasWrittenLaw → ChosenLaw → (s t : Story) (at value there : ℕ) (second : Bool) (h k : DiskHealth) (mid after : Option Story)
-    (calls calls_after : Option (List DiskCall)) → IsSure h 5 9 → IsUsed h k 3 8 → mid ≡ Some t → Prepares s at value mid Done → IsReady at value mid →
+pub lost_late : HasWrittenLaw → ChosenLaw → (s t : Story) (at value there : ℕ) (second : Bool) (h k l : DiskHealth) (mid after : Option Story)
+    (calls calls_after : Option (List DiskCall)) → IsSure h l 5 9 → IsUsed h k 3 8 → mid ≡ Some t → Prepares s at value mid Done → IsReady at value mid →
     there ≡ at → HasSpare t there second → second ≡ not (cell_in s.now.bytes at).second →
-    ((all : List DiskCall) × (calls ≡ Some all)) → LogsBoth (there + 16) (gate_byte second ∷ []) (IsCrowded k 2 1) calls calls_after Failed →
+    ((all : List DiskCall) × (calls ≡ Some all)) → LogsBoth (there + 16) (gate_byte second ∷ []) (IsLeftOut k l) calls calls_after Failed →
     (GoesAsListed k → AsListed mid calls after calls_after) → LeavesValue s at value after
-lost_late has_written one_byte_left s t at value there second h k mid after calls calls_after sure used told prepared ready is_at spare second_is all logs listed =
-    let sure_now : IsSure k 2 1 = record {
-      going = lists_on h k 3 8 used sure.going;
-      calls_fit = omega (arith, sure.calls_fit, used.calls_left);
-      bytes_fit = omega (arith, sure.bytes_fit, used.room_left);
-    } in
-    let here : LogsBoth (there + 16) (gate_byte second ∷ []) ⊥ (Some all.0) calls_after Failed =
-    subst (λ (o : Option (List DiskCall)). LogsBoth (there + 16) (gate_byte second ∷ []) ⊥ o calls_after Failed) all.1
-    (both_wider (there + 16) (gate_byte second ∷ []) (IsCrowded k 2 1) ⊥ calls calls_after Failed (not_crowded k 2 1 sure_now) logs) in
+lost_late has_written one_byte_left s t at value there second h k l mid after calls calls_after sure used told prepared ready is_at spare second_is all logs listed =
+    let sure_now : IsSure k l 2 1 = sure_behind h k l 3 8 used 2 1 5 9 (omega arith) (omega arith) sure in
+    let here : LogsBoth (there + 16) (gate_byte second ∷ []) (λ made n. ⊥) (Some all.0) calls_after Failed =
+    subst (λ (o : Option (List DiskCall)). LogsBoth (there + 16) (gate_byte second ∷ []) (λ made n. ⊥) o calls_after Failed) all.1
+    (both_wider (there + 16) (gate_byte second ∷ []) (IsLeftOut k l) (λ made n. ⊥) calls calls_after Failed sure_now.listed logs) in
     let as_listed : AsListed (Some t) (Some all.0) after calls_after =
     subst (λ (o : Option (List DiskCall)). AsListed (Some t) o after calls_after) all.1
     (subst (λ (o : Option Story). AsListed o calls after calls_after) told (listed sure_now.going)) in

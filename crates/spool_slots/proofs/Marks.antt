@@ -8,14 +8,13 @@ use Rattle.disk_base.specs.declared.disk.Disk as disk
 use Rattle.disk_base.proofs.Moments.{through_more}
 use Rattle.gate_cell.specs.Cell.{cell_in, with_value}
 use Rattle.gate_cell.specs.Holds.{Holds, HoldsEither}
-use Rattle.spool_slots.specs.Changes.{Ends, HasLostMove, HasValue, HoldsThrough, IsSame, IsSameOr, cleared_in}
-use Rattle.spool_slots.specs.Changes.{reserved_in}
-use Rattle.spool_slots.specs.File.{SpoolFile, StandsFor, file_in}
-use Rattle.spool_slots.specs.Front.{floor_cell, mark_cell}
+use Rattle.spool_file.specs.File.{Ends, SpoolFile, StandsFor, file_in}
+use Rattle.spool_file.specs.Front.{floor_cell, mark_cell}
+use Rattle.spool_file.specs.Slot.{slot_place}
+use Rattle.spool_file.specs.declared.recovery.Known.{Known}
+use Rattle.spool_slots.specs.Changes.{HasLostMove, HasValue, HoldsThrough, IsSame, IsSameOr, cleared_in, reserved_in}
 use Rattle.spool_slots.specs.Losses.{HasLostValue, cell_left, file_left, gate_counts, names_spare}
-use Rattle.spool_slots.specs.Slot.{slot_place}
 use Rattle.spool_slots.specs.Spool.{IsSpool, Rests, in_hand}
-use Rattle.spool_slots.specs.declared.recovery.Known.{Known}
 use Rattle.spool_slots.proofs.Celled.{floored_anew, floored_as_it_was, marked_anew, marked_as_it_was}
 use Rattle.spool_slots.proofs.Lasting.{rests_for}
 
@@ -66,7 +65,8 @@ pub move_lost : {D : Type 0} (members : disk.Ghosts D) (d d' : D) (at value : �
     ((s : Story) → members.told d ≡ Some s → (image : List ℕ) →
     Holds s.now at (with_value value (cell_in s.now.bytes at)) image →
     StandsFor image (moved s.now.bytes)) →
-    ((s : Story) → members.told d ≡ Some s → HasLostValue s at value (members.health d) (members.told d')) →
+    ((s : Story) → members.told d ≡ Some s → HasLostValue s at value (members.health d) (members.health d')
+    (members.told d')) →
     HasLostMove members d d' at moved
 move_lost members d d' at value moved old new lost = record {
   early = λ planned s told. let goes = (lost s told).early planned in

@@ -7,27 +7,24 @@ use Rattle.std.proofs.lemmas.Bool.Decides.{nat_tests}
 use Rattle.disk_base.specs.Story.{with_part}
 use Rattle.disk_base.proofs.Marks.{length-part}
 use Rattle.gate_cell.specs.Cell.{Cell, cell_in}
-use Rattle.spool_slots.specs.Area.{first_of, or_else}
+use Rattle.spool_file.specs.Area.{first_of, or_else}
+use Rattle.spool_file.specs.File.{StandsFor, area_break, file_in, floor_in, gates_below, list_below, slot_message}
+use Rattle.spool_file.specs.File.{slot_stands, slots_in, spool_break}
+use Rattle.spool_file.specs.Front.{floor_cell, front_break, front_in, front_size, mark_cell, slots_of}
+use Rattle.spool_file.specs.Run.{IsChainFrom, width}
+use Rattle.spool_file.specs.Slot.{Message, Slot, head_break, is_open, message_of, slot_break, slot_in, slot_place}
+use Rattle.spool_file.specs.Slot.{stands_on}
+use Rattle.spool_file.proofs.Areas.{IsSameAt}
+use Rattle.spool_file.proofs.Firsts.{both_none}
+use Rattle.spool_file.proofs.Fresh.{made_file}
+use Rattle.spool_file.proofs.Fronts.{front_cell}
+use Rattle.spool_file.proofs.Gapless.{IsWhole, absent_none, good_is, good_none, good_width, kept_sound, sound_of}
+use Rattle.spool_file.proofs.Gapless.{stands_good}
+use Rattle.spool_file.proofs.Gates.{closed_absent, one_gate, same_gates}
+use Rattle.spool_file.proofs.Runs.{IsKept, chain_up}
+use Rattle.spool_file.proofs.Written.{front_beside, gate_stays, gate_written, others_stay}
 use Rattle.spool_slots.specs.Changes.{dropped_in, sealed_in, shut_in}
-use Rattle.spool_slots.specs.File.{SpoolFile, StandsFor, area_break, file_in, floor_in, gates_below, list_below}
-use Rattle.spool_slots.specs.File.{slot_message, slot_stands, slots_in, spool_break}
-use Rattle.spool_slots.specs.Front.{floor_cell, front_break, front_in, front_size, mark_cell, slots_of}
-use Rattle.spool_slots.specs.Run.{IsChainFrom, width}
-use Rattle.spool_slots.specs.Slot.{Message, Slot, head_break, is_open, message_of, slot_break, slot_in, slot_place}
-use Rattle.spool_slots.specs.Slot.{stands_on}
-use Rattle.spool_slots.proofs.Areas.{IsSameAt}
 use Rattle.spool_slots.proofs.Changes.{closes, closes_kept, opens, opens_kept, same_kept, same_list}
-use Rattle.spool_slots.proofs.Firsts.{both_none}
-use Rattle.spool_slots.proofs.Fronts.{front_cell}
-use Rattle.spool_slots.proofs.Gapless.{IsWhole, absent_none, good_is, good_none, good_width, kept_sound, sound_of}
-use Rattle.spool_slots.proofs.Gapless.{stands_good}
-use Rattle.spool_slots.proofs.Gates.{one_gate, same_gates}
-use Rattle.spool_slots.proofs.Runs.{IsKept, chain_up}
-use Rattle.spool_slots.proofs.Written.{front_beside, gate_stays, gate_written, others_stay}
-
--- a file of these parts
-abbrev pub made_file : ℕ → List Bool → (mark floor : Cell) → List Message → SpoolFile
-made_file slots gates mark floor list = record { slots = slots; gates = gates; mark = mark; floor = floor; list = list }
 
 -- the same front has the same cells
 same_cell : (bytes image : List ℕ) (at : ℕ) → at + 17 ≤ front_size → front_in image ≡ front_in bytes →
@@ -71,17 +68,6 @@ stands_now bytes image slots gates list same long front slots_are area gates_are
           ∙ ap (λ (l : List Message). made_file (slots_in image) (file_in image).gates (cell_in image mark_cell)
           (cell_in image floor_cell) l) there.2;
     }
-
-open_if : (a b : Bool) → (a && b) ≡ true → a ≡ true
-open_if true b is = refl
-open_if false b is = is
-
--- a slot that stands is open, and a closed one doesn't
-pub stands_open : (floor : ℕ) (slot : Slot) → stands_on floor slot ≡ true → is_open slot ≡ true
-stands_open floor slot is = open_if (is_open slot) (nat_le floor slot.head.number) is
-
-pub closed_absent : (floor : ℕ) (slot : Slot) → is_open slot ≡ false → stands_on floor slot ≡ false
-closed_absent floor slot is = ap (λ (b : Bool). b && nat_le floor slot.head.number) is
 
 -- slots before and now, above a floor
 module _ (floor : ℕ) (f g : ℕ → Slot) (k : ℕ) where

@@ -9,15 +9,15 @@ use Rattle.disk_base.specs.Story.{Story, bytes_at, with_part}
 use Rattle.disk_base.specs.declared.disk.Disk as disk
 use Rattle.disk_base.specs.declared.disk.DiskAnswer.{DiskAnswer}
 use Rattle.disk_base.specs.declared.disk.DiskAnswer.TheVariants.{Done}
-use Rattle.spool_slots.specs.Changes.{Ends, HasSettled, HoldsThrough, IsNext, IsSame, parts_of}
-use Rattle.spool_slots.specs.File.{file_in}
-use Rattle.spool_slots.specs.Slot.{Message, head_break, head_of, is_open, message_of, slot_in, slot_place}
+use Rattle.spool_file.specs.File.{Ends, file_in}
+use Rattle.spool_file.specs.Slot.{Message, head_break, head_of, is_open, message_of, slot_in, slot_place}
+use Rattle.spool_file.specs.declared.recovery.Known.{Known}
+use Rattle.spool_file.specs.declared.slot.SlotHead.{SlotHead}
+use Rattle.spool_file.proofs.Gapless.{is_good}
+use Rattle.spool_file.proofs.Written.{gate_stays, parts_there}
+use Rattle.spool_slots.specs.Changes.{HasSettled, HoldsThrough, IsNext, IsSame, parts_of}
 use Rattle.spool_slots.specs.Spool.{HasParts, IsSpool, IsStagedSpool, Rests, in_hand}
-use Rattle.spool_slots.specs.declared.recovery.Known.{Known}
-use Rattle.spool_slots.specs.declared.slot.SlotHead.{SlotHead}
 use Rattle.spool_slots.proofs.Lasting.{after_settle, done_at, lasts, parts_leave, rests_now}
-use Rattle.spool_slots.proofs.Gapless.{is_good}
-use Rattle.spool_slots.proofs.Written.{gate_stays, parts_there}
 
 abbrev head_with : ℕ → ℕ → ℕ → ℕ → SlotHead
 head_with number stream function len = record { number = number; stream = stream; function = function; len = len }

@@ -1,8 +1,8 @@
 -- A look at a gate, which is closed where it was open.
 use Rattle.std.proofs.Common.{◌≡◌, ℕ, ◌<◌, ◌≤◌, Bool, true, false, List, [], ◌∷◌, length, get_or, slice_index, Option}
-use Rattle.std.proofs.Common.{Some, None, sym, ap, subst, ◌∙◌, arith, inl}
+use Rattle.std.proofs.Common.{Some, None, sym, ap, subst, ◌∙◌, arith, inl, ⊎_elim}
 use Rattle.disk_base.specs.Calls.{DiskCall, read_call}
-use Rattle.disk_base.specs.Faults.{DiskHealth, GoesAsListed, IsPlanned}
+use Rattle.disk_base.specs.Faults.{GoesAsListed}
 use Rattle.disk_base.specs.Listed.{AsListed}
 use Rattle.disk_base.specs.SameDisk.{IsSameDisk}
 use Rattle.disk_base.specs.Settle.{Settles}
@@ -11,17 +11,14 @@ use Rattle.disk_base.specs.declared.disk.Disk as disk
 use Rattle.disk_base.specs.declared.disk.DiskAnswer.{DiskAnswer}
 use Rattle.disk_base.specs.declared.disk.DiskAnswer.TheVariants.{Done, Failed}
 use Rattle.disk_base.proofs.Listings.{listed_behind}
-use Rattle.disk_base.proofs.Stretches.{lists_on, planned_before, same_then, used_none}
+use Rattle.disk_base.proofs.Stretches.{lists_on, planned_or_left_out, same_then}
+use Rattle.spool_file.specs.Logs.{MakesAll}
+use Rattle.spool_file.proofs.Making.{makes_before, makes_then}
+use Rattle.spool_file.proofs.Written.{at-taken}
 use Rattle.spool_slots.specs.Changes.{HasLostShut, HasSettled, HasShut, Shuts, shut_calls}
-use Rattle.spool_slots.specs.Logs.{MakesAll}
 use Rattle.spool_slots.specs.Losses.{LeavesByte, opens}
-use Rattle.spool_slots.proofs.Lost.{ChosenLaw, HasWrittenLaw, byte_left}
-use Rattle.spool_slots.proofs.Making.{makes_before, makes_settled, makes_then}
-use Rattle.spool_slots.proofs.Written.{at-taken}
-
--- a call planned among some is planned among more
-pub planned_wider : (h : DiskHealth) (n all : ℕ) → n ≤ all → IsPlanned h n → IsPlanned h all
-planned_wider h n all less is = planned_before h h 0 0 (used_none h) n all (omega (arith, less)) is
+use Rattle.spool_slots.proofs.Lost.{ChosenLaw, HasWrittenLaw, byte_left, sure_behind}
+use Rattle.spool_slots.proofs.Settling.{makes_settled}
 
 -- whether a gate is open, where it is told
 abbrev open_told : ℕ → Option Story → Bool
@@ -72,6 +69,14 @@ module _ {D : Type 0} (members : disk.Ghosts D) (d d1 : D) (at : ℕ) where
         same_disk = look.same_disk;
       }
 
+  pub look_lost : HasLook members d d1 at Failed → HasLostShut members d d1 at
+  look_lost look = record {
+    early = λ planned. look.told;
+    late = λ sure settled none. absurd (⊎_elim none (λ out.
+        sure.listed look.calls.cause.made 0 (omega (arith, look.calls.cause.few)) (omega arith) out)
+        (planned_or_left_out (members.health d) (members.health d1) 1 0 sure.going.on look.calls.cause));
+  }
+
   -- and then the 00, where the gate was open
   module _ (look : HasLook members d d1 at Done)
       (opened : (s : Story) → members.told d ≡ Some s → opens (slice_index s.now.bytes at) ≡ true) (d2 : D) where
@@ -98,9 +103,6 @@ module _ {D : Type 0} (members : disk.Ghosts D) (d d1 : D) (at : ℕ) where
       late = λ sure settled none. subst (λ (o : Option Story). LeavesByte o (members.told d2) at 0) look.told
           (byte_left written left members d1 d2 at 0 called (λ s told. settled s (sym look.told ∙ told))
           (λ s told. inside s (sym look.told ∙ told))
-          done (record {
-            going = lists_on _ _ 1 0 look.calls.cause sure.going;
-            calls_fit = omega (arith, sure.calls_fit, look.calls.cause.calls_left);
-            bytes_fit = omega (arith, sure.bytes_fit, look.calls.cause.room_left);
-          }));
+          done (sure_behind (members.health d) (members.health d1) (members.health d2) 1 0 look.calls.cause 2 1 3 1
+          (omega arith) (omega arith) sure));
     }

@@ -9,18 +9,19 @@ use Rattle.disk_base.specs.declared.disk.Disk as disk
 use Rattle.disk_base.specs.declared.disk.DiskAnswer.{DiskAnswer}
 use Rattle.disk_base.specs.declared.disk.DiskAnswer.TheVariants.{Done, Failed}
 use Rattle.disk_base.proofs.Moments.{only_now, starts}
+use Rattle.disk_base.proofs.Stretches.{planned_or_left_out}
+use Rattle.spool_file.specs.File.{SpoolFile, StandsFor, file_in, is_open_at}
+use Rattle.spool_file.specs.Logs.{written_by}
+use Rattle.spool_file.specs.Slot.{is_open, slot_in, slot_place}
+use Rattle.spool_file.specs.declared.recovery.Known.{Known}
+use Rattle.spool_file.proofs.Gates.{gate_at, shut_again}
+use Rattle.spool_file.proofs.Written.{gate_written}
 use Rattle.spool_slots.specs.Changes.{HasLostStage, HasShut, HoldsThrough, IsSame, IsSameOr, LosesShut, Shuts}
 use Rattle.spool_slots.specs.Changes.{shut_calls, shut_in, with_shut}
-use Rattle.spool_slots.specs.File.{SpoolFile, StandsFor, file_in, is_open_at}
-use Rattle.spool_slots.specs.Logs.{written_by}
 use Rattle.spool_slots.specs.Losses.{IsSure, LeavesByGate, closes, file_left, opens}
-use Rattle.spool_slots.specs.Slot.{is_open, slot_in, slot_place}
 use Rattle.spool_slots.specs.Spool.{IsSpool, Rests, in_hand}
-use Rattle.spool_slots.specs.declared.recovery.Known.{Known}
-use Rattle.spool_slots.proofs.Gates.{gate_at, shut_again}
 use Rattle.spool_slots.proofs.Lasting.{done_at, lasts, one_byte, rests_now, shut_leaves, stale_by}
 use Rattle.spool_slots.proofs.Lost.{by_byte}
-use Rattle.spool_slots.proofs.Written.{gate_written}
 
 -- whether the slot of a number is open, by the file
 pub open_by_file : (bytes : List ℕ) (number slots : ℕ) → slots ≡ (file_in bytes).slots → number % slots < slots →
@@ -190,16 +191,18 @@ module _ {D : Type 0} (members : disk.Ghosts D) (d d1 : D) (k : Known) (is : IsS
     lost_by b is_b calls n few short = record {
       early = λ planned. early_same (loses.early planned);
       shutting = shutting b is_b;
-      late = λ sure none. absurd (⊎_elim none (λ less. omega (arith, less, short, sure.bytes_fit))
-          ((cause b is_b).lacking (omega (arith, few, sure.calls_fit))));
+      late = λ sure none. absurd (⊎_elim none (λ out.
+          sure.listed (cause b is_b).made (written_by (shut_calls b at)) (omega (arith, few, (cause b is_b).few)) short
+          out) (planned_or_left_out h (members.health d1) (length (shut_calls b at)) (written_by (shut_calls b at))
+          sure.going.on (cause b is_b)));
     } where
       cause : (b : Bool) → shut.stale ≡ b →
           DiskFault h (members.health d1) (length (shut_calls b at)) (h.room < written_by (shut_calls b at))
       cause b is_b = subst (λ b. DiskFault h (members.health d1) (length (shut_calls b at))
           (h.room < written_by (shut_calls b at))) is_b shut.calls.cause
 
-      shutting : (b : Bool) → shut.stale ≡ b → IsSure h (length (shut_calls b at)) 1 → (IsPlanned h 1 → ⊥) →
-          IsPlanned h (length (shut_calls b at)) →
+      shutting : (b : Bool) → shut.stale ≡ b → IsSure h (members.health d1) (length (shut_calls b at)) 1 →
+          (IsPlanned h 1 → ⊥) → IsPlanned h (length (shut_calls b at)) →
           LeavesByGate (members.told d) (members.told d1) closes (shut_in k.next)
       shutting false is_b sure none planned = absurd (none planned)
       shutting true is_b sure none planned =

@@ -10,17 +10,18 @@ use Rattle.disk_base.specs.declared.disk.DiskAnswer.TheVariants.{Done, Failed}
 use Rattle.disk_base.proofs.Listings.{listed_behind}
 use Rattle.disk_base.proofs.Moments.{through_both, through_more}
 use Rattle.disk_base.proofs.Stretches.{lists_on, same_then}
-use Rattle.spool_slots.specs.Changes.{Ends, HasSettled, HasShut, HasStaged, HoldsThrough, IsSameOr, LosesShut}
-use Rattle.spool_slots.specs.Changes.{LosesStage, Stages, parts_calls, parts_of, shut_calls, shut_in}
-use Rattle.spool_slots.specs.File.{StandsFor, file_in, is_open_at}
-use Rattle.spool_slots.specs.Logs.{written_by}
+use Rattle.spool_file.specs.File.{Ends, StandsFor, file_in, is_open_at}
+use Rattle.spool_file.specs.Logs.{written_by}
+use Rattle.spool_file.specs.Slot.{is_open, slot_in, slot_place}
+use Rattle.spool_file.specs.declared.recovery.Known.{Known}
+use Rattle.spool_file.proofs.Making.{makes_before, makes_then, written_both}
+use Rattle.spool_slots.specs.Changes.{HasSettled, HasShut, HasStaged, HoldsThrough, IsSameOr, LosesShut, LosesStage}
+use Rattle.spool_slots.specs.Changes.{Stages, parts_calls, parts_of, shut_calls, shut_in}
 use Rattle.spool_slots.specs.Losses.{Leaves}
-use Rattle.spool_slots.specs.Slot.{is_open, slot_in, slot_place}
 use Rattle.spool_slots.specs.Spool.{IsSpool, IsStagedSpool, in_hand}
-use Rattle.spool_slots.specs.declared.recovery.Known.{Known}
-use Rattle.spool_slots.proofs.Making.{makes_before, makes_settled, makes_then, written_both}
 use Rattle.spool_slots.proofs.Parts.{parts_end, parts_images, staged_message, staged_spool}
-use Rattle.spool_slots.proofs.Shutting.{planned_wider}
+use Rattle.spool_slots.proofs.Settling.{makes_settled}
+use Rattle.spool_slots.proofs.Lost.{planned_wider}
 use Rattle.spool_slots.proofs.Stale.{lost_shut, same_story, shut_after, shut_images, shut_spool, stale_said, told_first}
 
 some_look : (b : Bool) (at : ℕ) → 1 ≤ length (shut_calls b at)

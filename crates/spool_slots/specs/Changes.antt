@@ -6,7 +6,7 @@ use Rattle.std.specs.List.{slice_get}
 use Rattle.std.specs.Option.{option_map}
 use Rattle.disk_base.specs.Calls.{DiskCall, Logs, read_call, sync_call, with_call, write_call}
 use Rattle.disk_base.specs.Cut.{image_of}
-use Rattle.disk_base.specs.Faults.{DiskHealth, GoesAsListed, HasCause, IsCrowded, IsPlanned}
+use Rattle.disk_base.specs.Faults.{DiskHealth, GoesAsListed, HasCause, IsLeftOut, IsPlanned}
 use Rattle.disk_base.specs.Listed.{AsListed}
 use Rattle.disk_base.specs.SameDisk.{IsSameDisk}
 use Rattle.disk_base.specs.Settle.{LogsBoth, Settles}
@@ -19,19 +19,19 @@ use Rattle.disk_base.specs.declared.disk.DiskAnswer.TheVariants.{Done, Failed}
 use Rattle.gate_cell.specs.Calls.{LogsPreparing}
 use Rattle.gate_cell.specs.Cell.{Cell, cell_in, gate_byte, with_value}
 use Rattle.gate_cell.specs.Holds.{Holds}
-use Rattle.spool_slots.specs.Area.{first_of}
-use Rattle.spool_slots.specs.File.{SpoolFile, StandsFor, file_in, is_open_at, slot_message, spool_break}
-use Rattle.spool_slots.specs.Front.{floor_cell, mark_cell}
-use Rattle.spool_slots.specs.Logs.{MakesAll, written_by}
+use Rattle.spool_file.specs.Area.{first_of}
+use Rattle.spool_file.specs.File.{Ends, SpoolFile, StandsFor, file_in, is_open_at, slot_message, spool_break}
+use Rattle.spool_file.specs.Front.{floor_cell, mark_cell}
+use Rattle.spool_file.specs.Logs.{MakesAll, written_by}
+use Rattle.spool_file.specs.Reading.{IsBreak}
+use Rattle.spool_file.specs.Reads.{HasRead, MakesWhole, recover_calls}
+use Rattle.spool_file.specs.Slot.{Message, slot_in, slot_place}
+use Rattle.spool_file.specs.declared.slot.SlotHead.{SlotHead}
 use Rattle.spool_slots.specs.Losses.{IsSure, Leaves, LeavesByGate, LeavesByte, closes, file_left, gate_counts}
 use Rattle.spool_slots.specs.Losses.{names_spare, opens}
-use Rattle.spool_slots.specs.Reading.{IsBreak}
-use Rattle.spool_slots.specs.Reads.{HasRead, MakesWhole, recover_calls}
-use Rattle.spool_slots.specs.Slot.{Message, slot_in, slot_place}
 use Rattle.spool_slots.specs.Spool.{Rests, SpoolView, first_slot, in_hand, known_of, next_slot}
 use Rattle.spool_slots.specs.declared.states.Dropping.{Dropping}
 use Rattle.spool_slots.specs.declared.states.Dropping.TheVariants as dropping
-use Rattle.spool_slots.specs.declared.slot.SlotHead.{SlotHead}
 use Rattle.spool_slots.specs.declared.states.OldestAnswer.{OldestAnswer}
 use Rattle.spool_slots.specs.declared.states.OldestAnswer.TheVariants as oldest
 use Rattle.spool_slots.specs.declared.states.Recovering.{Recovering}
@@ -130,17 +130,12 @@ sealed_in k bytes = with_message (slot_message (slot_in bytes) k) (file_in bytes
 abbrev pub dropped_in : List ℕ → SpoolFile
 dropped_in bytes = without_first (file_in bytes)
 
--- all that is there now stands for a file, and is settled
-pub record Ends (t : Story) (file : SpoolFile) : Type 0 where
-  pub settled : t.now.loose ≡ []
-  pub stands : StandsFor t.now.bytes file
-
 -- a write and its sync were made, as far as they went, and the rest of the disk is as it was
 pub record HasSettled {D : Type 0} (members : disk.Ghosts D) (old new : D) (at : ℕ) (bytes : List ℕ)
     (answer : DiskAnswer) : Type 0 where
   pub told : Settles (members.told old) at bytes (members.told new) answer
   pub size : members.size_is new ≡ members.size_is old
-  pub calls : LogsBoth at bytes (IsCrowded (members.health old) 2 (length bytes)) (members.calls old)
+  pub calls : LogsBoth at bytes (IsLeftOut (members.health old) (members.health new)) (members.calls old)
       (members.calls new) answer
   pub listed : GoesAsListed (members.health old) →
       AsListed (members.told old) (members.calls old) (members.told new) (members.calls new)
@@ -165,7 +160,8 @@ pub record HasNoSync {D : Type 0} (members : disk.Ghosts D) (old new : D) : Type
   pub size : members.size_is new ≡ members.size_is old
   pub same_disk : IsSameDisk members old new
   pub cause : HasCause (members.health old) (members.health new) 1 0 ⊥ Failed
-  pub calls : Logs sync_call (IsCrowded (members.health old) 1 0) (members.calls old) (members.calls new) Failed
+  pub calls : Logs sync_call (IsLeftOut (members.health old) (members.health new) 0 0) (members.calls old)
+      (members.calls new) Failed
 
 -- how many reads tell that a file of this size stands for no list, at most
 abbrev pub most_reads : ℕ → ℕ
@@ -223,8 +219,8 @@ pub record HasShut {D : Type 0} (members : disk.Ghosts D) (old new : D) (at : �
 -- where it failed at the look nothing was written, and elsewhere the 00 was
 pub record HasLostShut {D : Type 0} (members : disk.Ghosts D) (old new : D) (at : ℕ) : Type 0 where
   pub early : IsPlanned (members.health old) 1 → members.told new ≡ members.told old
-  pub late : IsSure (members.health old) 3 1 → ((s : Story) → members.told old ≡ Some s → s.now.loose ≡ []) →
-      (IsPlanned (members.health old) 1 → ⊥) → LeavesByte (members.told old) (members.told new) at 0
+  pub late : IsSure (members.health old) (members.health new) 3 1 →
+      ((s : Story) → members.told old ≡ Some s → s.now.loose ≡ []) → (IsPlanned (members.health old) 1 → ⊥) → LeavesByte (members.told old) (members.told new) at 0
 
 abbrev pub LosesShut : {D : Type 0} → disk.Ghosts D → D → D → ℕ → DiskAnswer → Type 0
 LosesShut members old new at Done = Unit {0}
@@ -253,11 +249,11 @@ pub record HasStaged {D : Type 0} (members : disk.Ghosts D) (v : SpoolView D) (s
 pub record HasLostStage {D : Type 0} (members : disk.Ghosts D) (v : SpoolView D) (after : D) (looks calls n : ℕ) :
     Type 0 where
   pub early : IsPlanned (members.health v.disk) 1 → HoldsThrough (members.told v.disk) (members.told after) IsSame
-  pub shutting : IsSure (members.health v.disk) looks 1 → (IsPlanned (members.health v.disk) 1 → ⊥) →
-      IsPlanned (members.health v.disk) looks →
+  pub shutting : IsSure (members.health v.disk) (members.health after) looks 1 →
+      (IsPlanned (members.health v.disk) 1 → ⊥) → IsPlanned (members.health v.disk) looks →
       LeavesByGate (members.told v.disk) (members.told after) closes (shut_in v.next)
-  pub late : IsSure (members.health v.disk) calls n → (IsPlanned (members.health v.disk) looks → ⊥) →
-      Leaves (members.told v.disk) (members.told after) (shut_in v.next)
+  pub late : IsSure (members.health v.disk) (members.health after) calls n →
+      (IsPlanned (members.health v.disk) looks → ⊥) → Leaves (members.told v.disk) (members.told after) (shut_in v.next)
 
 abbrev pub LosesStage : {D : Type 0} → disk.Ghosts D → SpoolView D → ℕ → ℕ → List ℕ → D → Type 0
 LosesStage members v stream function body after =
@@ -302,7 +298,7 @@ Seals members v (Ok w) =
     Ends t (sealed_in (next_slot v) s.now.bytes))
 Seals members v (Err spent) =
     HasSealed members v spent.disk Failed
-    × (IsSure (members.health v.disk) 2 1 →
+    × (IsSure (members.health v.disk) (members.health spent.disk) 2 1 →
     LeavesByGate (members.told v.disk) (members.told spent.disk) opens (sealed_in (next_slot v)))
 
 -- the gate of the oldest message's slot was closed; each message takes one number
@@ -321,7 +317,7 @@ Drops members v (Ok w) =
 Drops members v (Err (dropping.Empty w)) = (w ≡ v) × (v.len ≡ 0)
 Drops members v (Err (dropping.Failed spent)) =
     HasDropped members v spent.disk Failed
-    × (IsSure (members.health v.disk) 2 1 →
+    × (IsSure (members.health v.disk) (members.health spent.disk) 2 1 →
     LeavesByGate (members.told v.disk) (members.told spent.disk) closes dropped_in)
 
 -- one slot was read, and the rest is as it was; each message takes one number
@@ -331,8 +327,8 @@ pub record HasLooked {D : Type 0} (members : disk.Ghosts D) (v w : SpoolView D) 
   pub same : w ≡ in_hand w.disk (known_of v)
   pub told : members.told w.disk ≡ members.told v.disk
   pub size : members.size_is w.disk ≡ members.size_is v.disk
-  pub calls : Logs (read_call (slot_place k) 4096) (IsCrowded (members.health v.disk) 1 0) (members.calls v.disk)
-      (members.calls w.disk) answer
+  pub calls : Logs (read_call (slot_place k) 4096) (IsLeftOut (members.health v.disk) (members.health w.disk) 0 0)
+      (members.calls v.disk) (members.calls w.disk) answer
   pub cause : HasCause (members.health v.disk) (members.health w.disk) 1 0 ⊥ answer
   pub same_disk : IsSameDisk members v.disk w.disk
 
@@ -355,18 +351,19 @@ Looks members v w number before into oldest.Failed =
 
 -- a value was prepared for the cell at a place, and then the cell's gate was written that names its copy, as far as
 -- that went
-pub record HasCommitted (s : Story) (at value : ℕ) (Crowded : Type 0) (before after : Option (List DiskCall))
+pub record HasCommitted (s : Story) (at value : ℕ) (LeftOut : ℕ → ℕ → Type 0) (before after : Option (List DiskCall))
     (answer : DiskAnswer) : Type 0 where
   pub prepared : Option (List DiskCall)
-  pub first : LogsPreparing s at value Crowded before prepared Done
-  pub last : LogsBoth (at + 16) (gate_byte (not (cell_in s.now.bytes at).second) ∷ []) Crowded prepared after
-      answer
+  pub first : LogsPreparing s at value LeftOut before prepared Done
+  pub last : LogsBoth (at + 16) (gate_byte (not (cell_in s.now.bytes at).second) ∷ [])
+      (λ made n. LeftOut (3 + made) (8 + n)) prepared after answer
 
 -- the calls that write another value of a cell
-abbrev pub LogsValue : Story → ℕ → ℕ → Type 0 → Option (List DiskCall) → Option (List DiskCall) → DiskAnswer → Type 0
-LogsValue s at value Crowded before after Done = HasCommitted s at value Crowded before after Done
-LogsValue s at value Crowded before after Failed =
-    LogsPreparing s at value Crowded before after Failed ⊎ HasCommitted s at value Crowded before after Failed
+abbrev pub LogsValue : Story → ℕ → ℕ → (ℕ → ℕ → Type 0) → Option (List DiskCall) → Option (List DiskCall) →
+    DiskAnswer → Type 0
+LogsValue s at value LeftOut before after Done = HasCommitted s at value LeftOut before after Done
+LogsValue s at value LeftOut before after Failed =
+    LogsPreparing s at value LeftOut before after Failed ⊎ HasCommitted s at value LeftOut before after Failed
 
 -- the bytes are settled, and the cell has this value, in the copy that didn't count before
 abbrev pub HasValue : Story → ℕ → ℕ → Option Story → Type 0
@@ -380,7 +377,7 @@ pub record HasMoved {D : Type 0} (members : disk.Ghosts D) (old new : D) (at val
   pub images : HoldsThrough (members.told old) (members.told new) (IsSameOr moved)
   pub size : members.size_is new ≡ members.size_is old
   pub calls : (s : Story) → members.told old ≡ Some s → LogsValue s at value
-      (IsCrowded (members.health old) 5 9) (members.calls old) (members.calls new) answer
+      (IsLeftOut (members.health old) (members.health new)) (members.calls old) (members.calls new) answer
   pub listed : GoesAsListed (members.health old) →
       AsListed (members.told old) (members.calls old) (members.told new) (members.calls new)
   pub cause : HasCause (members.health old) (members.health new) 5 9 ((members.health old).room < 9) answer
@@ -391,8 +388,9 @@ pub record HasMoved {D : Type 0} (members : disk.Ghosts D) (old new : D) (at val
 pub record HasLostMove {D : Type 0} (members : disk.Ghosts D) (old new : D) (at : ℕ) (moved : List ℕ → SpoolFile) :
     Type 0 where
   pub early : IsPlanned (members.health old) 3 → HoldsThrough (members.told old) (members.told new) IsSame
-  pub late : IsSure (members.health old) 5 9 → (IsPlanned (members.health old) 3 → ⊥) → (s t : Story) →
-      members.told old ≡ Some s → members.told new ≡ Some t → (choice : CutChoice) → StandsFor (image_of choice t)
+  pub late : IsSure (members.health old) (members.health new) 5 9 → (IsPlanned (members.health old) 3 → ⊥) →
+      (s t : Story) → members.told old ≡ Some s → members.told new ≡ Some t → (choice : CutChoice) →
+      StandsFor (image_of choice t)
       (file_left (gate_counts choice (names_spare (cell_in s.now.bytes at))) (moved s.now.bytes) (file_in s.now.bytes))
 
 -- it was all done, and this is the file; or it failed, and what a crash leaves goes by the call

@@ -1,13 +1,4 @@
-pub mod Added
-pub mod Area
 pub mod Changes
-pub mod File
 pub mod Format
-pub mod Front
-pub mod Logs
 pub mod Losses
-pub mod Reading
-pub mod Reads
-pub mod Run
-pub mod Slot
 pub mod Spool

@@ -1,21 +1,20 @@
 -- What a power loss leaves of a work that it interrupts (this profile).
-use Rattle.std.specs.Prelude.{◌≡◌, ◌==◌, ℕ, ◌≤◌, Bool, true, false, not, if◌then◌else◌, List, [], ◌∷◌, slice_index}
+use Rattle.std.specs.Prelude.{◌≡◌, ◌==◌, ℕ, ◌<◌, ◌≤◌, Bool, true, false, not, if◌then◌else◌, List, [], ◌∷◌, slice_index}
 use Rattle.std.specs.Prelude.{Option, Some}
 use Rattle.disk_base.specs.Cut.{chosen_byte, image_of}
-use Rattle.disk_base.specs.Faults.{DiskHealth, GoesAsListed, IsPlanned}
+use Rattle.disk_base.specs.Faults.{DiskHealth, GoesAsListed, IsLeftOut, IsPlanned}
 use Rattle.disk_base.specs.Story.{Story, with_part}
 use Rattle.disk_base.specs.Through.{EachImage, GoesThrough}
 use Rattle.disk_base.specs.declared.cut.CutChoice.{CutChoice}
 use Rattle.disk_base.specs.declared.cut.CutChoice.TheVariants.{Old, New, Fill, First}
 use Rattle.gate_cell.specs.Cell.{Cell, cell_in, names_second, with_value}
 use Rattle.gate_cell.specs.Holds.{Holds}
-use Rattle.spool_slots.specs.File.{SpoolFile, StandsFor, file_in}
+use Rattle.spool_file.specs.File.{SpoolFile, StandsFor, file_in}
 
--- a disk goes on, each call comes to what its entry says, and there is sure room for so many calls that write n bytes
-pub record IsSure (health : DiskHealth) (calls n : ℕ) : Type 0 where
-  pub going : GoesAsListed health
-  pub calls_fit : calls ≤ health.calls
-  pub bytes_fit : n ≤ health.room
+-- a disk went on, each call comes to what its entry says, and none of so many that write n bytes was left out
+pub record IsSure (before now : DiskHealth) (calls n : ℕ) : Type 0 where
+  pub going : GoesAsListed before
+  pub listed : (made m : ℕ) → made < calls → m ≤ n → IsLeftOut before now made m → ⊥
 
 -- whether a gate that was written and not synced counts after a crash, by what its bytes mean
 abbrev pub gate_counts : CutChoice → (ℕ → Bool) → Bool
@@ -69,6 +68,6 @@ LeavesValue s at value after =
     (with_value value (cell_in s.now.bytes at)) (cell_in s.now.bytes at)) (image_of choice t)
 
 -- where one of the three calls that prepare it was to fail, the cell is left as it was; elsewhere the gate decides
-pub record HasLostValue (s : Story) (at value : ℕ) (before : DiskHealth) (after : Option Story) : Type 0 where
+pub record HasLostValue (s : Story) (at value : ℕ) (before now : DiskHealth) (after : Option Story) : Type 0 where
   pub early : IsPlanned before 3 → GoesThrough s after (Holds s.now at (cell_in s.now.bytes at))
-  pub late : IsSure before 5 9 → (IsPlanned before 3 → ⊥) → LeavesValue s at value after
+  pub late : IsSure before now 5 9 → (IsPlanned before 3 → ⊥) → LeavesValue s at value after

@@ -3,10 +3,10 @@ use Rattle.std.specs.Prelude.{◌≡◌, ℕ, ◌+◌, ◌^◌, ◌%◌, ◌<◌
 use Rattle.std.specs.Coded.{Coded, code_by, coded×, coded_ℕ}
 use Rattle.disk_base.specs.Story.{Story}
 use Rattle.disk_base.specs.declared.disk.Disk as disk
-use Rattle.spool_slots.specs.File.{file_in, slots_in, spool_break}
-use Rattle.spool_slots.specs.Run.{IsChainFrom}
-use Rattle.spool_slots.specs.Slot.{head_break, is_open, slot_in, slot_place}
-use Rattle.spool_slots.specs.declared.recovery.Known.{Known}
+use Rattle.spool_file.specs.File.{file_in, slots_in, spool_break}
+use Rattle.spool_file.specs.Run.{IsChainFrom}
+use Rattle.spool_file.specs.Slot.{head_break, is_open, slot_in, slot_place}
+use Rattle.spool_file.specs.declared.recovery.Known.{Known}
 
 -- the disk, how many slots there are, the numbers of the oldest message and of the next one, how many messages there
 -- are, and the mark

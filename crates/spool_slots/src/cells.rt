@@ -2,7 +2,7 @@
 //! the new one.
 
 ghost use Rattle.std.specs.Prelude.{◌≡◌, ◌+◌, ◌<◌, ◌≤◌, false, None, Some, IfErr, IfOk};
-ghost use Rattle.disk_base.specs.Faults.{GoesAsListed, HasCause, IsCrowded};
+ghost use Rattle.disk_base.specs.Faults.{GoesAsListed, HasCause, IsLeftOut};
 ghost use Rattle.disk_base.specs.Listed.{AsListed};
 ghost use Rattle.disk_base.specs.SameDisk.{IsSameDisk};
 ghost use Rattle.disk_base.specs.Story.{Story};
@@ -28,13 +28,13 @@ pub fn write_cell<D: Disk>(disk: D, at: u64, value: u64) -> Result<D, D>
     ensures untold { D.told disk ≡ None → OnDisk (λ d. d) result (λ after answer. D.told after ≡ None) }
     ensures size { OnDisk (λ d. d) result (λ after answer. D.size_is after ≡ D.size_is disk) }
     ensures calls { (s : Story) → D.told disk ≡ Some s → OnDisk (λ d. d) result (λ after answer.
-        LogsValue s at value (IsCrowded (D.health disk) 5 9) (D.calls disk) (D.calls after) answer) }
+        LogsValue s at value (IsLeftOut (D.health disk) (D.health after)) (D.calls disk) (D.calls after) answer) }
     ensures listed { GoesAsListed (D.health disk) → OnDisk (λ d. d) result (λ after answer.
         AsListed (D.told disk) (D.calls disk) (D.told after) (D.calls after)) }
     ensures cause { OnDisk (λ d. d) result (λ after answer.
         HasCause (D.health disk) (D.health after) 5 9 ((D.health disk).room < 9) answer) }
     ensures loss { (s : Story) → D.told disk ≡ Some s →
-        IfErr result (λ after. HasLostValue s at value (D.health disk) (D.told after)) }
+        IfErr result (λ after. HasLostValue s at value (D.health disk) (D.health after) (D.told after)) }
     ensures same_disk { OnDisk (λ d. d) result (λ after answer. IsSameDisk D.Disk disk after) }
 {
     match prepare(disk, at, value) {

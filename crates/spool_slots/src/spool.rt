@@ -6,14 +6,16 @@ ghost use Rattle.spool_slots.specs.Changes.{Clears, Drops, Looks, Reserves, Stag
 ghost use Rattle.spool_slots.specs.Spool.{IsSpool, Rests, in_hand, known_of};
 
 use crate::cells::write_cell;
-use crate::front::{FLOOR_CELL, MARK_CELL, MARK_MOST};
-use crate::recovery::{Known, MARK_STEP};
-use crate::slot::{BODY_MOST, CLOSED, NUMBERS, SLOT_SIZE, head_in, slot_of};
-use crate::slots::{settle_gate, settle_parts, shut_gate, slot_place};
+use crate::gates::{settle_gate, settle_parts, shut_gate};
+use crate::known::{MARK_STEP, with_mark_moved, without_all, without_first};
 use crate::staged::{Staged, with_parts};
 use crate::states::{Dropping, OldestAnswer, Reserving, Spent, Staging};
 use crate::stored::{Stored, parts_of};
 use disk_base::{Disk, DiskAnswer, MemDisk, cut_leaves_the_chosen_byte, failed_settle_has_written};
+use spool_file::{
+    BODY_MOST, CLOSED, FLOOR_CELL, Known, MARK_CELL, MARK_MOST, NUMBERS, SLOT_SIZE, head_in,
+    slot_of, slot_place,
+};
 use std::marker::Model;
 
 /// A spool on a device: messages in the order of their numbers, each in a slot, and a mark.
@@ -158,7 +160,7 @@ impl<D: Disk> Spool<D> {
         let known = self.known;
         let mut disk = self.disk;
         match settle_gate(&mut disk, known.slots, known.first, CLOSED) {
-            DiskAnswer::Done => Ok(taken_up(disk, known.without_first(1))),
+            DiskAnswer::Done => Ok(taken_up(disk, without_first(known, 1))),
             DiskAnswer::Failed => {
                 failed_settle_has_written();
                 cut_leaves_the_chosen_byte();
@@ -179,7 +181,7 @@ impl<D: Disk> Spool<D> {
             return Ok(self);
         }
         match write_cell(self.disk, FLOOR_CELL, known.next) {
-            Ok(disk) => Ok(taken_up(disk, known.without_all())),
+            Ok(disk) => Ok(taken_up(disk, without_all(known))),
             Err(disk) => Err(Spent { disk }),
         }
     }
@@ -194,7 +196,7 @@ impl<D: Disk> Spool<D> {
             return Err(Reserving::NumbersSpent(self));
         }
         match write_cell(self.disk, MARK_CELL, known.mark + MARK_STEP) {
-            Ok(disk) => Ok((taken_up(disk, known.with_mark_moved()), known.mark as u32)),
+            Ok(disk) => Ok((taken_up(disk, with_mark_moved(known)), known.mark as u32)),
             Err(disk) => Err(Reserving::Failed(Spent { disk })),
         }
     }

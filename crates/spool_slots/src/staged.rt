@@ -5,12 +5,12 @@ ghost use Rattle.spool_slots.specs.Changes.{Seals};
 ghost use Rattle.disk_base.specs.Story.{Story};
 ghost use Rattle.spool_slots.specs.Spool.{IsStagedSpool, Rests, in_hand, known_of};
 
-use crate::recovery::Known;
-use crate::slot::OPEN;
-use crate::slots::settle_gate;
+use crate::gates::settle_gate;
+use crate::known::with_one_more;
 use crate::spool::{Spool, taken_up};
 use crate::states::Spent;
 use disk_base::{Disk, DiskAnswer, cut_leaves_the_chosen_byte, failed_settle_has_written};
+use spool_file::{Known, OPEN};
 use std::marker::Model;
 
 /// A spool with a message that stands in the next slot, which is closed still.
@@ -57,7 +57,7 @@ impl<D: Disk> Staged<D> {
         let known = self.known;
         let mut disk = self.disk;
         match settle_gate(&mut disk, known.slots, known.next, OPEN) {
-            DiskAnswer::Done => Ok(taken_up(disk, known.with_one_more(1))),
+            DiskAnswer::Done => Ok(taken_up(disk, with_one_more(known, 1))),
             DiskAnswer::Failed => {
                 failed_settle_has_written();
                 cut_leaves_the_chosen_byte();

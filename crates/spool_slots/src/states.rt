@@ -4,14 +4,11 @@ ghost use Rattle.std.specs.Prelude.{◌≡◌};
 ghost use Rattle.spool_slots.specs.Changes.{Recovers};
 ghost use Rattle.spool_slots.specs.Format.{Formats};
 
-use crate::format::write_empty;
-use crate::front::SLOTS_MOST;
-use crate::reading::{NotSpool, Reading};
-use crate::recovery::{Known, read_file};
-use crate::slot::SlotHead;
-use crate::slots::slot_place;
 use crate::spool::{Spool, taken_up};
 use disk_base::{Disk, DiskAnswer};
+use spool_file::{
+    Known, NotSpool, Reading, SLOTS_MOST, SlotHead, read_file, slot_place, write_empty,
+};
 
 /// A device of which nothing is known.
 #[derive(Debug, Drop)]

@@ -1,12 +1,13 @@
 -- The value by how far its change comes: what a crash leaves, which calls are listed, and what a fault has left.
 
-use Rattle.std.proofs.Common.{◌<◌, inl, inr, ⊎_elim, arith}
-use Rattle.disk_base.specs.Faults.{DiskHealth, HasCause, IsPlanned}
+use Rattle.std.proofs.Common.{◌+◌, ◌<◌, inl, inr, ⊎_elim, refl, arith}
+use Rattle.disk_base.specs.Faults.{DiskHealth, HasCause, IsLeftOut, IsPlanned}
 use Rattle.disk_base.specs.declared.disk.DiskAnswer.TheVariants.{Done, Failed}
 use Rattle.disk_base.proofs.Listings.{listed_behind}
-use Rattle.disk_base.proofs.Stretches.{crowded_behind, crowded_wider, fault_behind, fault_wider, lists_on, used_behind}
+use Rattle.disk_base.proofs.Stretches.{fault_behind, fault_wider, left_out_behind, lists_on, planned_or_left_out}
+use Rattle.disk_base.proofs.Stretches.{used_behind}
 use Rattle.spool_slots.specs.Losses.{IsSure}
-use Rattle.spool_slots.proofs.CellWrites.{commit_images, either_of, gate_calls, has_value, preparing_wider}
+use Rattle.spool_slots.proofs.CellWrites.{commit_images, either_of, gate_calls, has_value}
 use Rattle.spool_slots.proofs.LostCells.{lost_late}
 use Rattle.spool_slots.proofs.cells.write_cell.Goals as goal
 
@@ -15,9 +16,7 @@ returns-in-Err-clause-images g c = λ s told. either_of s c.args.at _ _ _ (c.in-
 
 pub returns-in-Err-clause-calls : goal.returns-in-Err-clause-calls
 returns-in-Err-clause-calls g c = λ s told.
-    inl (preparing_wider s c.args.at c.args.value _ _ _ _
-    (λ is. crowded_wider (g.D.Disk.health c.args.disk) 3 8 5 9 (omega arith) (omega arith) is)
-    (c.in-Err.ensures.calls s told))
+    inl (c.in-Err.ensures.calls s told)
 
 pub returns-in-Err-clause-cause : goal.returns-in-Err-clause-cause
 returns-in-Err-clause-cause g c =
@@ -41,8 +40,12 @@ pub returns-in-Ok-commit-clause-calls : goal.returns-in-Ok-commit-clause-calls
 returns-in-Ok-commit-clause-calls g c = λ s told. record {
   prepared = g.D.Disk.calls c.in-Ok.prepared.disk;
   first = c.in-Ok.ensures.calls s told;
-  last = gate_calls s c.args.at _ _ _ _ _ _ Done
-      (λ is. crowded_behind _ _ 3 8 c.in-Ok.ensures.cause 2 1 5 9 (omega arith) (omega arith) is)
+  last = gate_calls s c.args.at _ _
+      (IsLeftOut (g.D.Disk.health c.in-Ok.prepared.disk) (g.D.Disk.health c.in-Ok-commit.disk))
+      (λ made n. IsLeftOut (g.D.Disk.health c.args.disk) (g.D.Disk.health c.in-Ok-commit.disk) (3 + made) (8 + n)) _ _
+      Done
+      (λ made n few short is.
+      left_out_behind _ _ 3 8 c.in-Ok.ensures.cause _ made n (3 + made) (8 + n) refl (omega arith) is)
       c.in-Ok.ensures.value.0 (c.in-Ok.ensures.second s told) c.in-Ok-commit.ensures.calls;
 }
 
@@ -66,8 +69,12 @@ pub returns-in-Err-commit-clause-calls : goal.returns-in-Err-commit-clause-calls
 returns-in-Err-commit-clause-calls g c = λ s told. inr (record {
   prepared = g.D.Disk.calls c.in-Ok.prepared.disk;
   first = c.in-Ok.ensures.calls s told;
-  last = gate_calls s c.args.at _ _ _ _ _ _ Failed
-      (λ is. crowded_behind _ _ 3 8 c.in-Ok.ensures.cause 2 1 5 9 (omega arith) (omega arith) is)
+  last = gate_calls s c.args.at _ _
+      (IsLeftOut (g.D.Disk.health c.in-Ok.prepared.disk) (g.D.Disk.health c.in-Err-commit.disk))
+      (λ made n. IsLeftOut (g.D.Disk.health c.args.disk) (g.D.Disk.health c.in-Err-commit.disk) (3 + made) (8 + n)) _ _
+      Failed
+      (λ made n few short is.
+      left_out_behind _ _ 3 8 c.in-Ok.ensures.cause _ made n (3 + made) (8 + n) refl (omega arith) is)
       c.in-Ok.ensures.value.0 (c.in-Ok.ensures.second s told) c.in-Err-commit.ensures.calls;
 })
 
@@ -81,10 +88,11 @@ returns-in-Err-commit-clause-cause g c =
     fault_behind _ _ 3 8 c.in-Ok.ensures.cause _ 2 5 _ ((g.D.Disk.health c.args.disk).room < 9) (omega arith)
     (λ less. omega (arith, less, c.in-Ok.ensures.cause.room_left)) c.in-Err-commit.ensures.cause
 
-planned_of : (h k : DiskHealth) → IsSure h 5 9 → HasCause h k 3 8 (h.room < 8) Failed → IsPlanned h 3
-planned_of h k sure cause =
-    ⊎_elim (λ planned. planned) (λ less. absurd (omega (arith, less, sure.bytes_fit)))
-    (cause.lacking (omega (arith, sure.calls_fit)))
+planned_of : (h k : DiskHealth) → IsSure h k 5 9 → HasCause h k 3 8 (h.room < 8) Failed → IsPlanned h 3
+planned_of h k sure fault =
+    ⊎_elim (λ planned. planned)
+    (λ out. absurd (sure.listed fault.made 8 (omega (arith, fault.few)) (omega arith) out))
+    (planned_or_left_out h k 3 8 sure.going.on fault)
 
 pub returns-in-Err-clause-loss : goal.returns-in-Err-clause-loss
 returns-in-Err-clause-loss g c = λ s told. record {
@@ -101,7 +109,7 @@ returns-in-Err-commit-clause-loss g c = λ s told.
       early = λ planned. absurd (c.in-Ok.ensures.cause.unplanned planned);
       late = λ sure none. lost_late c.failed_settle_has_written.ensures c.cut_leaves_the_chosen_byte.ensures s
           p.images.0 c.args.at c.args.value w.at w.second
-          (g.D.Disk.health c.args.disk) (g.D.Disk.health w.disk) (g.D.Disk.told w.disk) (g.D.Disk.told d)
+          (g.D.Disk.health c.args.disk) (g.D.Disk.health w.disk) (g.D.Disk.health d) (g.D.Disk.told w.disk) (g.D.Disk.told d)
           (g.D.Disk.calls w.disk) (g.D.Disk.calls d)
           sure c.in-Ok.ensures.cause p.images.1 p c.in-Ok.ensures.value.1 c.in-Ok.ensures.value.0
           (w.spare p.images.0 p.images.1)

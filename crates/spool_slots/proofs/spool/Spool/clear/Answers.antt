@@ -2,13 +2,13 @@
 
 use Rattle.std.proofs.Common.{◌≡◌, ◌∙◌, ◌<◌, Ok, refl, ap, sym, subst, inl, inr, arith}
 use Rattle.disk_base.specs.declared.disk.DiskAnswer.TheVariants.{Done, Failed}
+use Rattle.spool_file.specs.File.{file_in}
+use Rattle.spool_file.specs.Front.{floor_cell}
+use Rattle.spool_file.specs.declared.recovery.Known.{Known}
+use Rattle.spool_file.proofs.Lists.{none_long}
 use Rattle.spool_slots.specs.Changes.{Clears, HasMoved, MovesFloor, cleared_in}
-use Rattle.spool_slots.specs.File.{file_in}
-use Rattle.spool_slots.specs.Front.{floor_cell}
 use Rattle.spool_slots.specs.Spool.{IsSpool, SpoolView, in_hand}
-use Rattle.spool_slots.specs.declared.recovery.Known.{Known}
 use Rattle.spool_slots.proofs.Celled.{cell}
-use Rattle.spool_slots.proofs.Lists.{none_long}
 use Rattle.spool_slots.proofs.Marks.{clear_spool, move_ends, move_images, move_lost, new_floored, same_floored}
 use Rattle.spool_slots.proofs.spool.Spool.clear.Goals as goal
 

@@ -2,10 +2,10 @@
 
 use Rattle.std.proofs.Common.{◌==◌, not, ◌∙◌, ◌+◌, ◌-◌, ◌<◌, Ok, ap, sym, subst, arith}
 use Rattle.disk_base.specs.declared.disk.DiskAnswer.TheVariants.{Failed}
+use Rattle.spool_file.specs.declared.recovery.Known.{Known}
 use Rattle.spool_slots.specs.Changes.{HasDropped, Drops, dropped_in}
 use Rattle.spool_slots.specs.Losses.{IsSure, LeavesByGate}
 use Rattle.spool_slots.specs.Spool.{IsSpool, SpoolView, in_hand}
-use Rattle.spool_slots.specs.declared.recovery.Known.{Known}
 use Rattle.spool_slots.proofs.Lasting.{drop_does, drop_spool, drops}
 use Rattle.spool_slots.proofs.Lost.{drop_loss}
 use Rattle.spool_slots.proofs.spool.Spool.drop_oldest.Goals as goal
@@ -31,7 +31,7 @@ returns-in-Failed g c =
     let k = c.self.inside.known in
     let one : 0 < k.len = grind (arith, c.if-self-eq0.false) in
     subst (λ (v : SpoolView g.row.D.Denot). HasDropped g.D.Disk v c.settle_gate.new.disk Failed
-    × (IsSure (g.D.Disk.health v.disk) 2 1 →
+    × (IsSure (g.D.Disk.health v.disk) (g.D.Disk.health c.settle_gate.new.disk) 2 1 →
     LeavesByGate (g.D.Disk.told v.disk) (g.D.Disk.told c.settle_gate.new.disk) (λ gate. not (gate == 90)) dropped_in)) c.self.view_is (
       drop_does g.D.Disk c.self.inside.disk c.settle_gate.new.disk k c.self.invariant one Failed c.in-Failed.ensures,
       drop_loss c.failed_settle_has_written.ensures c.cut_leaves_the_chosen_byte.ensures g.D.Disk c.self.inside.disk c.settle_gate.new.disk k

@@ -2,11 +2,11 @@
 
 use Rattle.std.proofs.Common.{◌≡◌, ◌∙◌, ◌%◌, ◌<◌, ◌≤◌, ℕ, length, Some, refl, ap, subst, arith}
 use Rattle.disk_base.specs.Calls.{Logs, read_call}
-use Rattle.disk_base.specs.Faults.{IsCrowded}
+use Rattle.disk_base.specs.Faults.{IsLeftOut}
 use Rattle.disk_base.specs.Story.{Story, bytes_at}
 use Rattle.disk_base.specs.declared.disk.DiskAnswer.TheVariants.{Done, Failed}
+use Rattle.spool_file.specs.Slot.{slot_place}
 use Rattle.spool_slots.specs.Changes.{IsFound, HasLooked}
-use Rattle.spool_slots.specs.Slot.{slot_place}
 use Rattle.spool_slots.specs.Spool.{SpoolView, in_hand}
 use Rattle.spool_slots.proofs.Looking.{found_there, looked_on}
 use Rattle.spool_slots.proofs.spool.Spool.message_at.Goals as goal
@@ -26,8 +26,8 @@ returns g c =
         same = refl;
         told = c.in-Done.ensures.told;
         size = c.in-Done.ensures.size;
-        calls = subst (λ at. Logs (read_call at 4096) (IsCrowded (g.D.Disk.health c.self.inside.disk) 1 0) (g.D.Disk.calls c.self.inside.disk) (g.D.Disk.calls c.read.new.self) Done) place
-            (subst (λ n. Logs (read_call c.slot_place-at.result n) (IsCrowded (g.D.Disk.health c.self.inside.disk) 1 0) (g.D.Disk.calls c.self.inside.disk) (g.D.Disk.calls c.read.new.self) Done)
+        calls = subst (λ at. Logs (read_call at 4096) (IsLeftOut (g.D.Disk.health c.self.inside.disk) (g.D.Disk.health c.read.new.self) 0 0) (g.D.Disk.calls c.self.inside.disk) (g.D.Disk.calls c.read.new.self) Done) place
+            (subst (λ n. Logs (read_call c.slot_place-at.result n) (IsLeftOut (g.D.Disk.health c.self.inside.disk) (g.D.Disk.health c.read.new.self) 0 0) (g.D.Disk.calls c.self.inside.disk) (g.D.Disk.calls c.read.new.self) Done)
             c.told-into c.in-Done.ensures.calls);
         cause = c.in-Done.ensures.cause;
         same_disk = c.in-Done.ensures.same_disk;
@@ -61,8 +61,8 @@ returns-in-Failed g c =
         same = refl;
         told = c.in-Failed.ensures.told;
         size = c.in-Failed.ensures.size;
-        calls = subst (λ at. Logs (read_call at 4096) (IsCrowded (g.D.Disk.health c.self.inside.disk) 1 0) (g.D.Disk.calls c.self.inside.disk) (g.D.Disk.calls c.read.new.self) Failed) place
-            (subst (λ n. Logs (read_call c.slot_place-at.result n) (IsCrowded (g.D.Disk.health c.self.inside.disk) 1 0) (g.D.Disk.calls c.self.inside.disk) (g.D.Disk.calls c.read.new.self) Failed)
+        calls = subst (λ at. Logs (read_call at 4096) (IsLeftOut (g.D.Disk.health c.self.inside.disk) (g.D.Disk.health c.read.new.self) 0 0) (g.D.Disk.calls c.self.inside.disk) (g.D.Disk.calls c.read.new.self) Failed) place
+            (subst (λ n. Logs (read_call c.slot_place-at.result n) (IsLeftOut (g.D.Disk.health c.self.inside.disk) (g.D.Disk.health c.read.new.self) 0 0) (g.D.Disk.calls c.self.inside.disk) (g.D.Disk.calls c.read.new.self) Failed)
             c.told-into c.in-Failed.ensures.calls);
         cause = c.in-Failed.ensures.cause;
         same_disk = c.in-Failed.ensures.same_disk;

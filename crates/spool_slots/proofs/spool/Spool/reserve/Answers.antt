@@ -2,10 +2,10 @@
 
 use Rattle.std.proofs.Common.{◌∙◌, ◌+◌, Ok, refl, ap, sym, subst, arith}
 use Rattle.disk_base.specs.declared.disk.DiskAnswer.TheVariants.{Done, Failed}
+use Rattle.spool_file.specs.Front.{mark_cell}
+use Rattle.spool_file.specs.declared.recovery.Known.{Known}
 use Rattle.spool_slots.specs.Changes.{HasMoved, MovesMark, Reserves, reserved_in}
-use Rattle.spool_slots.specs.Front.{mark_cell}
 use Rattle.spool_slots.specs.Spool.{IsSpool, SpoolView, in_hand}
-use Rattle.spool_slots.specs.declared.recovery.Known.{Known}
 use Rattle.spool_slots.proofs.Celled.{cell}
 use Rattle.spool_slots.proofs.Marks.{move_ends, move_images, move_lost, new_marked, reserve_spool, same_marked}
 use Rattle.spool_slots.proofs.spool.Spool.reserve.Goals as goal

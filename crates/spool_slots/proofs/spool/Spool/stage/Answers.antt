@@ -2,8 +2,8 @@
 
 use Rattle.std.proofs.Common.{◌∙◌, ◌+◌, ◌%◌, ◌<◌, Ok, sym, subst, arith}
 use Rattle.disk_base.specs.declared.disk.DiskAnswer.TheVariants.{Done, Failed}
+use Rattle.spool_file.specs.Slot.{slot_place}
 use Rattle.spool_slots.specs.Changes.{HasSettled, HasStaged, LosesStage, Stages, parts_of}
-use Rattle.spool_slots.specs.Slot.{slot_place}
 use Rattle.spool_slots.specs.Spool.{SpoolView, in_hand}
 use Rattle.spool_slots.proofs.Together.{shut_lost, stage_does, stage_spool, stage_unshut, stages, unshut_lost}
 use Rattle.spool_slots.proofs.spool.Spool.stage.Goals as goal

@@ -2,10 +2,10 @@
 
 use Rattle.std.proofs.Common.{◌==◌, ◌∙◌, ◌+◌, Ok, ap, sym, subst}
 use Rattle.disk_base.specs.declared.disk.DiskAnswer.TheVariants.{Failed}
+use Rattle.spool_file.specs.declared.recovery.Known.{Known}
 use Rattle.spool_slots.specs.Changes.{HasSealed, Seals, sealed_in}
 use Rattle.spool_slots.specs.Losses.{IsSure, LeavesByGate}
 use Rattle.spool_slots.specs.Spool.{IsSpool, SpoolView, in_hand, next_slot}
-use Rattle.spool_slots.specs.declared.recovery.Known.{Known}
 use Rattle.spool_slots.proofs.Lasting.{seal_does, seal_spool, seals}
 use Rattle.spool_slots.proofs.Lost.{seal_loss}
 use Rattle.spool_slots.proofs.staged.Staged.seal.Goals as goal
@@ -28,7 +28,7 @@ pub returns-in-Failed : goal.returns-in-Failed
 returns-in-Failed g c =
     let k = c.self.inside.known in
     subst (λ (v : SpoolView g.row.D.Denot). HasSealed g.D.Disk v c.settle_gate.new.disk Failed
-    × (IsSure (g.D.Disk.health v.disk) 2 1 →
+    × (IsSure (g.D.Disk.health v.disk) (g.D.Disk.health c.settle_gate.new.disk) 2 1 →
     LeavesByGate (g.D.Disk.told v.disk) (g.D.Disk.told c.settle_gate.new.disk) (λ gate. gate == 90) (sealed_in (next_slot v)))) c.self.view_is (
       seal_does g.D.Disk c.self.inside.disk c.settle_gate.new.disk k c.self.invariant Failed c.in-Failed.ensures,
       seal_loss c.failed_settle_has_written.ensures c.cut_leaves_the_chosen_byte.ensures g.D.Disk c.self.inside.disk c.settle_gate.new.disk k

@@ -1,11 +1,11 @@
 -- The file of an empty list makes a spool.
 
 use Rattle.std.proofs.Common.{◌∙◌, ◌≤◌, Ok, refl, ap, sym, subst, arith}
+use Rattle.spool_file.specs.Slot.{slot_place}
+use Rattle.spool_file.specs.declared.recovery.Known.{Known}
 use Rattle.spool_slots.specs.Format.{Formats}
-use Rattle.spool_slots.specs.Slot.{slot_place}
 use Rattle.spool_slots.specs.Spool.{IsSpool, SpoolView, in_hand}
-use Rattle.spool_slots.specs.declared.recovery.Known.{Known}
-use Rattle.spool_slots.proofs.Fresh.{empty_spool}
+use Rattle.spool_slots.proofs.Found.{empty_spool}
 use Rattle.spool_slots.proofs.states.Raw.format.Goals as goal
 
 pub taken_up-requires : goal.taken_up-requires

@@ -5,15 +5,15 @@ use Rattle.std.specs.Option.{option_map}
 use Rattle.disk_base.specs.Story.{Story, with_sync}
 use Rattle.disk_base.specs.declared.disk.DiskAnswer.TheVariants.{Done, Failed}
 use Rattle.disk_base.proofs.Stretches.{same_then}
-use Rattle.spool_slots.specs.Area.{first_of}
+use Rattle.spool_file.specs.Area.{first_of}
+use Rattle.spool_file.specs.File.{file_in, floor_in, slots_in}
+use Rattle.spool_file.specs.Reading.{KnownFits}
+use Rattle.spool_file.specs.Slot.{slot_place}
+use Rattle.spool_file.proofs.FileLooks.{no_sync, synced_looks}
+use Rattle.spool_file.proofs.Stretches.{most_same, read_from}
 use Rattle.spool_slots.specs.Changes.{HasRecovered, RecoversBy}
-use Rattle.spool_slots.specs.File.{file_in, floor_in, slots_in}
-use Rattle.spool_slots.specs.Reading.{KnownFits}
-use Rattle.spool_slots.specs.Slot.{slot_place}
 use Rattle.spool_slots.specs.Spool.{Rests, SpoolView, known_of}
-use Rattle.spool_slots.proofs.FileLooks.{no_sync, synced_looks}
 use Rattle.spool_slots.proofs.Found.{rests_of, spool_of, synced}
-use Rattle.spool_slots.proofs.Stretches.{most_same, read_from}
 use Rattle.spool_slots.proofs.states.Raw.recover.Goals as goal
 
 pub taken_up-requires : goal.taken_up-requires

@@ -1,0 +1,217 @@
+-- What a new file stands for.
+use Rattle.std.proofs.Common.{◌≡◌, ◌⊎◌, inl, inr, ℕ, ◌+◌, ◌^◌, ◌<◌, ◌≤◌, ◌==◌, nat_lt, Bool, false, if◌then◌else◌, List}
+use Rattle.std.proofs.Common.{[], ◌∷◌, ◌++◌, length, length-append, take, drop, replicate, Option, Some, None, Result}
+use Rattle.std.proofs.Common.{Ok, refl, sym, ap, subst, ◌∙◌, arith}
+use Rattle.std.proofs.lemmas.Bool.{cases_eq}
+use Rattle.std.proofs.lemmas.Bool.Decides.{nat_tests}
+use Rattle.std.proofs.lemmas.List.{drop-append-le, drop-drop, drop-take, drop_all, length-replicate, take-append-le}
+use Rattle.std.proofs.lemmas.List.{take-take, take_all}
+use Rattle.std.proofs.lemmas.Nat.{from_be_bytes-to_be_bytes_4}
+use Rattle.std.specs.Int.{w32, from_be_bytes, to_be_bytes}
+use Rattle.std.specs.Option.{option_map}
+use Rattle.std.specs.Result.{OnOk}
+use Rattle.disk_base.specs.Story.{Story, with_part, with_sync, with_write}
+use Rattle.disk_base.proofs.Marks.{length-part}
+use Rattle.gate_cell.specs.Cell.{Cell, cell_in, cell_of, copy_of}
+use Rattle.spool_file.specs.Area.{or_else}
+use Rattle.spool_file.specs.File.{Ends, SpoolFile, StandsFor, area_break, floor_in, gates_below, list_below, slots_in}
+use Rattle.spool_file.specs.Format.{ClosesTo, IsClosedTo, empty_file, first_page}
+use Rattle.spool_file.specs.Front.{floor_cell, front_break, front_in, front_size, magic, magic_break, mark_cell}
+use Rattle.spool_file.specs.Front.{slots_of, unlike_at}
+use Rattle.spool_file.specs.Slot.{Message, is_open, slot_in, slot_place, stands_on}
+use Rattle.spool_file.proofs.Fronts.{front_cell, of_front, unlike_front}
+use Rattle.spool_file.proofs.Gapless.{none_break, none_held}
+use Rattle.spool_file.proofs.Gates.{closed_absent, shut_gates}
+use Rattle.spool_file.proofs.Written.{bytes_inside, front_beside, gate_written, others_stay}
+
+-- the first page
+module _ (slots : ℕ) where
+  abbrev count : List ℕ
+  count = to_be_bytes w32 slots
+
+  abbrev zeros : List ℕ
+  zeros = replicate 4084 0
+
+  abbrev head : List ℕ
+  head = magic ++ count
+
+  count_long : length count ≡ 4
+  count_long = refl
+
+  head_long : length head ≡ 12
+  head_long = omega (arith, length-append magic count, count_long)
+
+  pub page_is : first_page slots ≡ head ++ zeros
+  unfolding first_page
+  page_is = refl
+
+  pub page_long : length (first_page slots) ≡ 4096
+  page_long =
+      let behind_long : length zeros ≡ 4084 = length-replicate {A = ℕ} 4084 0 in
+      ap length page_is ∙ omega (arith, length-append head zeros, head_long, behind_long)
+
+  abbrev front : List ℕ
+  front = take 46 (head ++ zeros)
+
+  twelve : take 12 front ≡ head
+  twelve = take-take 12 46 (head ++ zeros) (omega arith) ∙ take-append-le 12 head zeros (omega (arith, head_long))
+      ∙ take_all 12 head (omega (arith, head_long))
+
+  magic_none : magic_break front ≡ None
+  unfolding magic_break
+  magic_none =
+      sym (unlike_front 0 magic front)
+      ∙ ap (λ (xs : List ℕ). unlike_at 0 magic xs)
+      (sym (take-take 8 12 front (omega arith)) ∙ ap (λ (xs : List ℕ). take 8 xs) twelve)
+
+  pub slots_are : slots < 2 ^ 32 → slots_of front ≡ slots
+  slots_are low =
+      ap (λ (xs : List ℕ). from_be_bytes w32 xs) (sym (drop-take 8 4 front) ∙ ap (λ (xs : List ℕ). drop 8 xs) twelve)
+      ∙ from_be_bytes-to_be_bytes_4 slots low
+
+  behind : drop 12 (head ++ zeros) ≡ zeros
+  behind = drop-append-le 12 head zeros (omega (arith, head_long))
+      ∙ ap (λ (xs : List ℕ). xs ++ zeros) (drop_all 12 head (omega (arith, head_long)))
+
+  cells : drop 12 front ≡ take 34 zeros
+  cells = drop-take 12 34 (head ++ zeros) ∙ ap (λ (xs : List ℕ). take 34 xs) behind
+
+  pub zero_mark : cell_in front mark_cell ≡ record { value = 0; second = false }
+  unfolding copy_of
+  zero_mark = ap (λ (xs : List ℕ). cell_of (take 17 xs)) cells
+
+  pub zero_floor : cell_in front floor_cell ≡ record { value = 0; second = false }
+  unfolding copy_of
+  zero_floor = ap (λ (xs : List ℕ). cell_of (take 17 xs))
+      (sym (drop-drop 17 12 front) ∙ ap (λ (xs : List ℕ). drop 17 xs) cells)
+
+  pub front_none : (size : ℕ) → 1 ≤ slots → slots ≤ 65535 → slot_place slots ≤ size → front_break front size ≡ None
+  front_none size some most fits = of_front front size (record {
+    name = magic_none;
+    slots = slots_none (slots_of front) (slots_are (omega (arith, most)));
+    mark = subst (λ (c : Cell). c.value ≤ 2 ^ 32) (sym zero_mark) (omega arith);
+    floor = subst (λ (c : Cell). c.value ≤ 2 ^ 63) (sym zero_floor) (omega arith);
+  })
+    where
+      slots_none : (n : ℕ) → n ≡ slots →
+          (if nat_lt size 12 then Some size else
+          (if n == 0 then Some 8 else
+          (if nat_lt 65535 n then Some 8 else (if nat_lt size (slot_place n) then Some size else None)))) ≡ None
+      slots_none n is = grind (arith, nat_tests, is, some, most, fits)
+
+-- a file of these parts
+abbrev pub made_file : ℕ → List Bool → (mark floor : Cell) → List Message → SpoolFile
+made_file slots gates mark floor list = record { slots = slots; gates = gates; mark = mark; floor = floor; list = list }
+
+-- an empty file
+pub empty_stands : (bytes : List ℕ) (slots : ℕ) → front_in bytes ≡ take 46 (first_page slots) → 1 ≤ slots →
+    slots ≤ 65535 →
+    slot_place slots ≤ length bytes → ((k : ℕ) → k < slots → is_open (slot_in bytes k) ≡ false) →
+    StandsFor bytes (empty_file slots)
+empty_stands bytes slots is some most fits closed =
+    let front : front_in bytes ≡ take 46 ((magic ++ to_be_bytes w32 slots) ++ replicate 4084 0) =
+    is ∙ ap (λ (xs : List ℕ). take 46 xs) (page_is slots) in
+    let count : slots_in bytes ≡ slots = ap slots_of front ∙ slots_are slots (omega (arith, most)) in
+    let slot = slot_in bytes in
+    let absent : (k : ℕ) → k < slots → stands_on (floor_in bytes) (slot k) ≡ false =
+    λ k below. closed_absent (floor_in bytes) (slot k) (closed k below) in
+    let mark = front_cell mark_cell front_size bytes (omega arith) ∙ ap (λ (f : List ℕ). cell_in f mark_cell) front
+    ∙ zero_mark slots in
+    let floor = front_cell floor_cell front_size bytes (omega arith) ∙ ap (λ (f : List ℕ). cell_in f floor_cell) front
+    ∙ zero_floor slots in
+    record {
+      sound =
+          ap (λ (o : Option ℕ). or_else o (area_break (floor_in bytes) slot (slots_in bytes)))
+          (ap (λ (f : List ℕ). front_break f (length bytes)) front ∙ front_none slots (length bytes) some most fits)
+          ∙ ap (λ (n : ℕ). area_break (floor_in bytes) slot n) count ∙ none_break (floor_in bytes) slot slots absent;
+      is =
+          sym (ap (λ (n : ℕ). made_file n (gates_below slot n) (cell_in bytes mark_cell) (cell_in bytes floor_cell)
+          (list_below (floor_in bytes) slot n)) count
+          ∙ ap (λ (gates : List Bool). made_file slots gates (cell_in bytes mark_cell) (cell_in bytes floor_cell)
+          (list_below (floor_in bytes) slot slots))
+          (shut_gates slot slots closed)
+          ∙ ap (λ (list : List Message). made_file slots (replicate slots false) (cell_in bytes mark_cell)
+          (cell_in bytes floor_cell) list)
+          (none_held (floor_in bytes) slot slots absent)
+          ∙ ap (λ (c : Cell). made_file slots (replicate slots false) c (cell_in bytes floor_cell) []) mark
+          ∙ ap (λ (c : Cell). made_file slots (replicate slots false) zeroed c []) floor);
+    } where
+      zeroed : Cell
+      zeroed = record { value = 0; second = false }
+
+-- what holds of a result that is `Ok`
+pub from_ok : {T E P : Type 0} (r : Result T E) (x : T) → r ≡ Ok x → OnOk r P → P
+from_ok {T} {E} {P} r x is holds = subst (λ (s : Result T E). OnOk s P) is holds
+
+-- what was told before
+pub back : (before after : Option Story) (f : Story → Story) (t : Story) → after ≡ option_map f before →
+    after ≡ Some t →
+    (s : Story) × (before ≡ Some s) × (t ≡ f s)
+back None after f t is told = absurd (grind (arith, is, told))
+back (Some s) after f t is told = (s, refl, ap (λ (o : Option Story). story_or t o) (sym told ∙ is)) where
+  story_or : Story → Option Story → Story
+  story_or other None = other
+  story_or other (Some s) = s
+
+-- one gate more was closed
+module _ (s t : Story) (k slots : ℕ) (is : IsClosedTo s t k) (below : k < slots)
+    (fits : slot_place slots ≤ length s.now.bytes) where
+  within : slot_place k + 4096 ≤ length t.now.bytes
+  within = omega (arith, below, fits, is.long)
+
+  abbrev now : List ℕ
+  now = with_part t.now.bytes (slot_place k) (0 ∷ [])
+
+  shut : (j : ℕ) → j < k + 1 → (j ≡ k) ⊎ (j ≡ k → ⊥) → is_open (slot_in now j) ≡ false
+  shut j less (inl same) = ap (λ (n : ℕ). is_open (slot_in now n)) same
+      ∙ ap is_open (gate_written t.now.bytes k 0 within)
+  shut j less (inr other) =
+      ap is_open (others_stay t.now.bytes (0 ∷ []) k j (slot_place k) 0 (omega arith) (omega (arith, within))
+      (omega arith) other)
+      ∙ is.closed j (grind (arith, less, other))
+
+  pub one_closed : IsClosedTo s (with_write (slot_place k) (0 ∷ []) t) (k + 1)
+  one_closed = record {
+    long = length-part t.now.bytes (0 ∷ []) (slot_place k) (omega (arith, within)) ∙ is.long;
+    front = front_beside t.now.bytes (0 ∷ []) (slot_place k) (omega (arith, within)) (omega arith) ∙ is.front;
+    closed = λ j less. shut j less (cases_eq j k);
+  }
+
+pub none_closed : (s : Story) → IsClosedTo s s 0
+none_closed s = record { long = refl; front = refl; closed = λ k below. absurd (omega (arith, below)) }
+
+pub closes_more : (o p q : Option Story) (k slots size : ℕ) → ((s : Story) → o ≡ Some s → length s.now.bytes ≡ size) →
+    k < slots → slot_place slots ≤ size →
+    ClosesTo o p k → q ≡ option_map (with_write (slot_place k) (0 ∷ [])) p → ClosesTo o q (k + 1)
+closes_more o p q k slots size sized below fits so_far is t told =
+    let before = back p q (with_write (slot_place k) (0 ∷ [])) t is told in
+    let first = so_far before.0 before.1 in (
+      first.0,
+      first.1,
+      subst (λ (u : Story). IsClosedTo first.0 u (k + 1)) (sym before.2)
+          (one_closed first.0 before.0 k slots first.2 below (omega (arith, fits, sized first.0 first.1))),
+    )
+
+-- the page, the closed slots and the sync
+pub stands_empty : (o p q r : Option Story) (slots size : ℕ) → ((s : Story) → o ≡ Some s → length s.now.bytes ≡ size) →
+    1 ≤ slots → slots ≤ 65535 →
+    slot_place slots ≤ size → p ≡ option_map (with_write 0 (first_page slots)) o → ClosesTo p q slots →
+    r ≡ option_map with_sync q →
+    (t : Story) → r ≡ Some t → Ends t (empty_file slots)
+stands_empty o p q r slots size sized some most fits page closes synced t told =
+    let u = back q r with_sync t synced told in
+    let v = closes u.0 u.1 in
+    let s = back o p (with_write 0 (first_page slots)) v.0 page v.1 in
+    let long : length s.0.now.bytes ≡ size = sized s.0 s.1 in
+    let inside : 0 + length (first_page slots) ≤ length s.0.now.bytes =
+    omega (arith, long, fits, some, page_long slots) in
+    let front : front_in v.0.now.bytes ≡ take 46 (first_page slots) =
+    ap (λ (w : Story). front_in w.now.bytes) s.2
+    ∙ bytes_inside s.0.now.bytes (first_page slots) 0 inside 0 46 (omega (arith, page_long slots)) in
+    let length_v : length v.0.now.bytes ≡ size = ap (λ (w : Story). length w.now.bytes) s.2
+    ∙ length-part s.0.now.bytes (first_page slots) 0 inside ∙ long in
+    subst (λ (w : Story). Ends w (empty_file slots)) (sym u.2) (record {
+      settled = refl;
+      stands = empty_stands u.0.now.bytes slots (v.2.front ∙ front) some most (omega (arith, fits, length_v, v.2.long))
+          v.2.closed;
+    })

@@ -1,0 +1,16 @@
+pub mod Added
+pub mod Areas
+pub mod Contents
+pub mod Evens
+pub mod FileLooks
+pub mod Firsts
+pub mod Fresh
+pub mod Fronts
+pub mod Gapless
+pub mod Gates
+pub mod Lists
+pub mod Making
+pub mod Runs
+pub mod Starts
+pub mod Stretches
+pub mod Written

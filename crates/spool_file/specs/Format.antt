@@ -1,0 +1,42 @@
+-- A new spool file, and what making it does (this profile).
+use Rattle.std.specs.Prelude.{◌≡◌, ℕ, ◌<◌, false, List, [], ◌++◌, length, replicate, Option, Some}
+use Rattle.std.specs.Int.{w32, to_be_bytes}
+use Rattle.disk_base.specs.Story.{Story}
+use Rattle.disk_base.specs.declared.disk.DiskAnswer.{DiskAnswer}
+use Rattle.disk_base.specs.declared.disk.DiskAnswer.TheVariants.{Done, Failed}
+use Rattle.spool_file.specs.File.{Ends, SpoolFile}
+use Rattle.spool_file.specs.Front.{front_in, magic}
+use Rattle.spool_file.specs.Slot.{is_open, slot_in}
+
+-- what stands before the slots of a new file, and the file
+unfoldable pub first_page : ℕ → List ℕ
+first_page slots = magic ++ to_be_bytes w32 slots ++ replicate 4084 0
+
+abbrev pub empty_file : ℕ → SpoolFile
+empty_file slots = record {
+  slots = slots;
+  gates = replicate slots false;
+  mark = record { value = 0; second = false };
+  floor = record { value = 0; second = false };
+  list = [];
+}
+
+-- the first n slots are closed, and length and front are as they were
+pub record IsClosedTo (before after : Story) (n : ℕ) : Type 0 where
+  pub long : length after.now.bytes ≡ length before.now.bytes
+  pub front : front_in after.now.bytes ≡ front_in before.now.bytes
+  pub closed : (k : ℕ) → k < n → is_open (slot_in after.now.bytes k) ≡ false
+
+-- a disk that tells its bytes told them before, and closed the slots since
+abbrev pub ClosesTo : Option Story → Option Story → ℕ → Type 0
+ClosesTo before after n =
+    (t : Story) → after ≡ Some t → (s : Story) × (before ≡ Some s) × IsClosedTo s t n
+
+abbrev pub ClosesSlots : Option Story → Option Story → ℕ → DiskAnswer → Type 0
+ClosesSlots before after n Done = ClosesTo before after n
+ClosesSlots before after n Failed = Unit {0}
+
+-- a disk that tells its bytes has an empty file
+abbrev pub StandsEmpty : Option Story → ℕ → DiskAnswer → Type 0
+StandsEmpty after slots Done = (t : Story) → after ≡ Some t → Ends t (empty_file slots)
+StandsEmpty after slots Failed = Unit {0}

@@ -1,0 +1,10 @@
+pub mod Added
+pub mod Area
+pub mod File
+pub mod Format
+pub mod Front
+pub mod Logs
+pub mod Reading
+pub mod Reads
+pub mod Run
+pub mod Slot

@@ -1,0 +1,75 @@
+//! A new file: its first page, and its slots, all closed.
+
+ghost use Rattle.std.specs.Prelude.{◌≡◌, ◌+◌, ◌<◌, ◌≤◌, None};
+ghost use Rattle.disk_base.specs.Faults.{HasCause};
+ghost use Rattle.disk_base.specs.SameDisk.{IsSameDisk};
+ghost use Rattle.spool_file.specs.Added.{OnlyAdds, WritesOrSyncs};
+ghost use Rattle.spool_file.specs.Format.{ClosesSlots, StandsEmpty, first_page as page_of};
+ghost use Rattle.spool_file.specs.Slot.{slot_place as place_of};
+
+use crate::front::MAGIC;
+use crate::slot::{CLOSED, SLOT_SIZE};
+use crate::slots::slot_place;
+use arrayvec::ArrayVec;
+use disk_base::{Disk, DiskAnswer};
+
+/// What stands before the slots.
+pub type Page = ArrayVec<u8, SLOT_SIZE>;
+
+/// The first page of a new file: its name, how many slots there are, and zeros, which are mark 0 and floor 0.
+#[tactic(auto, unfolding(crate::specs::Format::first_page))]
+pub fn first_page(slots: u32) -> Page
+    ensures { result.items ≡ page_of slots }
+{
+    let mut page = Page::new();
+    page.try_extend_from_slice(&MAGIC).unwrap();
+    page.try_extend_from_slice(&slots.to_be_bytes()).unwrap();
+    page.try_extend_from_slice(&[0; 4084]).unwrap();
+    page
+}
+
+/// Closes the gate of each slot.
+pub fn close_slots<D: Disk>(disk: &mut D, slots: u32) -> DiskAnswer
+    requires size { place_of slots ≤ D.size_is disk.old }
+    requires slots { slots ≤ 65535 }
+    ensures told { ClosesSlots (D.told disk.old) (D.told disk.new) slots result }
+    ensures size { D.size_is disk.new ≡ D.size_is disk.old }
+    ensures cause { HasCause (D.health disk.old) (D.health disk.new) slots slots
+        ((D.health disk.old).room < slots) result }
+    ensures calls { OnlyAdds WritesOrSyncs (D.calls disk.old) (D.calls disk.new) }
+    ensures same_disk { IsSameDisk D.Disk disk.old disk.new }
+{
+    for slot in 0..slots {
+        match disk.write(slot_place(slot), &[CLOSED]) {
+            DiskAnswer::Done => {}
+            DiskAnswer::Failed => return DiskAnswer::Failed,
+        }
+    }
+    DiskAnswer::Done
+}
+
+/// Writes the first page, closes the slots, and syncs.
+pub fn write_empty<D: Disk>(disk: &mut D, slots: u32) -> DiskAnswer
+    requires size { place_of slots ≤ D.size_is disk.old }
+    requires some { 1 ≤ slots }
+    requires most { slots ≤ 65535 }
+    ensures told { StandsEmpty (D.told disk.new) slots result }
+    ensures size { D.size_is disk.new ≡ D.size_is disk.old }
+    ensures cause { HasCause (D.health disk.old) (D.health disk.new) (slots + 2) (slots + 4096)
+        ((D.health disk.old).room < slots + 4096) result }
+    ensures calls { OnlyAdds WritesOrSyncs (D.calls disk.old) (D.calls disk.new) }
+    ensures same_disk { IsSameDisk D.Disk disk.old disk.new }
+{
+    match disk.write(0, &first_page(slots)) {
+        DiskAnswer::Done => {}
+        DiskAnswer::Failed => return DiskAnswer::Failed,
+    }
+    match close_slots(disk, slots) {
+        DiskAnswer::Done => {}
+        DiskAnswer::Failed => return DiskAnswer::Failed,
+    }
+    match disk.sync() {
+        DiskAnswer::Done => DiskAnswer::Done,
+        DiskAnswer::Failed => DiskAnswer::Failed,
+    }
+}

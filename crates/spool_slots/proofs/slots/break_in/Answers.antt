@@ -1,8 +1,0 @@
--- The byte at the break is that of the file.
-
-use Rattle.spool_slots.proofs.Starts.{got_is}
-use Rattle.spool_slots.specs.Slot.{slot_place}
-use Rattle.spool_slots.proofs.slots.break_in.Goals as goal
-
-pub returns-clause-got : goal.returns-clause-got
-returns-clause-got c bytes is = got_is bytes c.args.start.now (slot_place c.args.slot) c.told-start is c.args.place c.requires
