@@ -1,10 +1,11 @@
 -- What the calls of a disk in memory count.
-use Rattle.std.proofs.Common.{◌≡◌, ℕ, ◌-◌, ◌^◌, ◌<◌, ◌≤◌, ◌⊎◌, inl, inr, ◌∙◌, Bool, true, false, ◌||◌, ◌==◌, nat_le, nat_lt, [], ◌∷◌, length, length-append, if◌then◌else◌, refl, sym, ap, subst, ⊎_elim, arith}
+use Rattle.std.proofs.Common.{◌≡◌, ℕ, ◌+◌, ◌-◌, ◌^◌, ◌<◌, ◌≤◌, ◌⊎◌, inl, inr, ◌∙◌, Bool, true, false, ◌||◌, ◌==◌, nat_le, nat_lt, [], ◌∷◌, length, length-append, if◌then◌else◌, refl, sym, ap, subst, ⊎_elim, arith}
 use Rattle.std.proofs.lemmas.Bool.Decides.{nat_tests}
 use Rattle.disk_base.specs.Calls.{DiskCall}
-use Rattle.disk_base.specs.Faults.{HasCause, IsAmong, IsCrowded, IsPlanned, Rose, one_more}
-use Rattle.disk_base.specs.MemDisk.{DiskState, after_call, after_entry, after_refusal, answer_of, disk_health, faults_after, is_full}
+use Rattle.disk_base.specs.Faults.{DiskHealth, HasCause, IsAmong, IsCrowded, IsLeftOut, IsPlanned, Rose, one_more}
+use Rattle.disk_base.specs.MemDisk.{DiskState, after_call, after_entry, after_refusal, answer_of, disk_health, disk_size, faults_after, is_full, next_attach}
 use Rattle.disk_base.specs.Plan.{next_answer, next_plan}
+use Rattle.disk_base.proofs.Stretches.{none_planned}
 use Rattle.disk_base.specs.declared.disk.DiskAnswer.{DiskAnswer}
 use Rattle.disk_base.specs.declared.disk.DiskAnswer.TheVariants.{Done, Failed}
 use Rattle.disk_base.specs.declared.fault_plan.FaultPlan.{FaultPlan}
@@ -17,7 +18,7 @@ crowded_by : (most calls left n : ℕ) (full : Bool) → nat_le most calls ≡ f
 crowded_by most calls left n true is crowded = inl (grind (arith, nat_tests, is))
 crowded_by most calls left n false is crowded = inr (grind (arith, nat_tests, crowded))
 
-pub crowded_of : (s : DiskState) (n : ℕ) → is_full n s ≡ true → IsCrowded (disk_health s) 1 n
+crowded_of : (s : DiskState) (n : ℕ) → is_full n s ≡ true → IsCrowded (disk_health s) 1 n
 crowded_of s n full = crowded_by s.most (length s.calls) (s.room - s.used) n (nat_le s.most (length s.calls)) refl full
 
 -- a call fails as planned exactly where one of the next one call is to fail
@@ -61,6 +62,12 @@ going_on fail stop false is = by_stop (fail == 1) (stop == 1) is where
   by_stop true true is = absurd (grind (arith, is))
   by_stop false true is = absurd (grind (arith, is))
 
+-- one that fails stops it where it was to do so
+stops_next : (n : ℕ) (stopped next : Bool) → (n == 1) ≡ next → (stopped || next) ≡ true → (stopped ≡ true) ⊎ (n ≡ 0 + 1)
+stops_next n true next is now = inl refl
+stops_next n false true is now = inr (grind (arith, nat_tests, is))
+stops_next n false false is now = absurd (grind (arith, now))
+
 -- one that has stopped stays so
 stays : (plan : FaultPlan) → plan.stopped ≡ true → (next_plan plan).stopped ≡ true
 stays plan is = ap (λ (b : Bool). b || plan.stop_in == 1) is
@@ -77,8 +84,12 @@ module _ (s : DiskState) (call : DiskCall) (Lacking : Type 0) (below : s.faults 
       HasCause (disk_health s) (disk_health (if full then after_refusal s else after_entry call s)) 1 (length call.bytes) Lacking (if full then Failed else answer)
   go true answer full answered = record {
     rose = rose s.faults below;
-    lacking = room_lacks s (length call.bytes) Lacking lacking (crowded_of s (length call.bytes) full);
-    stays = stays s.plan;
+    made = 0;
+    few = omega arith;
+    unplanned = none_planned (disk_health s);
+    lacking = λ some. room_lacks s (length call.bytes) Lacking lacking (crowded_of s (length call.bytes) full) (omega (arith, some));
+    stays = λ stopped. stopped;
+    stops = λ stopped. inl stopped;
     calls_kept = omega arith;
     room_kept = omega arith;
   }
@@ -96,8 +107,12 @@ module _ (s : DiskState) (call : DiskCall) (Lacking : Type 0) (below : s.faults 
   }
   go false Failed full answered = record {
     rose = subst (λ answer. Rose s.faults (faults_after answer s.faults)) (sym answered) (rose s.faults below);
-    lacking = λ sure. ⊎_elim (λ is. inl (planned s is)) (λ is. inr is) (failed answered);
+    made = 0;
+    few = omega arith;
+    unplanned = none_planned (disk_health s);
+    lacking = λ some. ⊎_elim (λ is. inl (planned s is)) (λ is. inr is) (failed answered);
     stays = stays s.plan;
+    stops = stops_next s.plan.stop_in s.plan.stopped (s.plan.stop_in == 1) refl;
     calls_kept = omega (arith, length-append s.calls (call ∷ []));
     room_kept = omega arith;
   }
@@ -111,3 +126,20 @@ pub cause : (s : DiskState) (call : DiskCall) (Lacking : Type 0) → s.faults < 
     HasCause (disk_health s) (disk_health (after_call call s)) 1 (length call.bytes) Lacking (answer_of call s)
 cause s call Lacking below lacking answered =
     cause_of s call Lacking below lacking (λ is. sym answered ∙ is) (λ is. inl (sym answered ∙ is))
+
+-- an attaching, which may ask for more bytes than there are
+module _ (s : DiskState) (grow : ℕ) where
+  planned_done : (more : Bool) → (if more then Failed else next_answer s.plan) ≡ Done → next_answer s.plan ≡ Done
+  planned_done true is = absurd (grind (arith, is))
+  planned_done false is = is
+
+  planned_failed : (more : Bool) → nat_lt (disk_size s) grow ≡ more → (if more then Failed else next_answer s.plan) ≡ Failed →
+      (next_answer s.plan ≡ Failed) ⊎ (disk_size s < grow)
+  planned_failed true less is = inr (grind (arith, nat_tests, less))
+  planned_failed false less is = inl is
+
+  pub attach_cause : s.faults < 2 ^ 64 →
+      HasCause (disk_health s) (disk_health (after_call (next_attach grow s) s)) 1 0 (disk_size s < grow) (answer_of (next_attach grow s) s)
+  attach_cause below =
+      cause_of s (next_attach grow s) (disk_size s < grow) below (λ less. absurd (omega (arith, less)))
+      (planned_done (nat_lt (disk_size s) grow)) (planned_failed (nat_lt (disk_size s) grow) refl)

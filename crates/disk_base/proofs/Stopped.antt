@@ -23,7 +23,7 @@ module _ (s : Story) (at : ℕ) (bytes : List ℕ) (all : List DiskCall) (after 
       ∙ ap (λ (cs : List DiskCall). Some (fold next_story s cs)) (more_is all listed.more more calls listed.calls here)
       ∙ ap Some comes
 
-  pub has_written : LogsBoth at bytes ⊥ (Some all) calls Failed → after ≡ Some (with_write at bytes s)
+  pub has_written : LogsBoth at bytes (λ made n. ⊥) (Some all) calls Failed → after ≡ Some (with_write at bytes s)
   has_written (inl (inl none)) = absurd none.0
   has_written (inl (inr is)) = by_more (write_call at bytes Failed ∷ []) is refl
   has_written (inr (inl none)) = absurd none.0

@@ -1,11 +1,15 @@
 -- What some calls and then more calls count and keep.
-use Rattle.std.proofs.Common.{◌≡◌, ◌⊎◌, inl, inr, ⊎_elim, ℕ, ◌+◌, suc, ◌-◌, ◌<◌, ◌≤◌, true, List, Option, ◌∙◌, refl, sym, ap, arith}
+use Rattle.std.proofs.Common.{◌≡◌, ◌⊎◌, inl, inr, ⊎_elim, ℕ, ◌+◌, suc, ◌-◌, ◌<◌, ◌≤◌, Bool, true, false, List, length, Option, ◌∙◌, refl, sym, ap, subst, arith}
 use Rattle.std.proofs.lemmas.Bool.{cases_lt}
-use Rattle.disk_base.specs.Calls.{DiskCall, Logs, sync_call, write_call}
+use Rattle.disk_base.specs.Calls.{DiskCall, Logs, sync_call, with_call, write_call}
 use Rattle.disk_base.specs.Settle.{LogsBoth}
-use Rattle.disk_base.specs.Faults.{DiskFault, DiskHealth, GoesAsListed, IsAmong, IsCrowded, IsPlanned, IsUsed, one_more}
+use Rattle.disk_base.specs.Faults.{DiskFault, DiskHealth, GoesAsListed, HasCause, IsAmong, IsCrowded, IsLeftOut, IsPlanned, IsUsed, one_more}
 use Rattle.disk_base.specs.declared.disk.DiskAnswer.{DiskAnswer}
 use Rattle.disk_base.specs.declared.disk.DiskAnswer.TheVariants.{Done, Failed}
+
+-- of no calls none is to fail
+pub none_planned : (a : DiskHealth) → IsPlanned a 0 → ⊥
+none_planned a = ⊎_elim (λ is. omega (arith, is.0, is.1)) (⊎_elim (λ is. omega (arith, is.0, is.1)) (λ is. omega (arith, is.1)))
 
 -- no calls at all
 pub used_none : (a : DiskHealth) → IsUsed a a 0 0
@@ -17,7 +21,7 @@ used_none a = record {
   room_kept = omega arith;
   fail_left = omega arith;
   stop_left = omega arith;
-  unplanned = ⊎_elim (λ is. omega (arith, is.0, is.1)) (⊎_elim (λ is. omega (arith, is.0, is.1)) (λ is. omega (arith, is.1)));
+  unplanned = none_planned a;
   going = refl;
   exact = refl;
 }
@@ -72,24 +76,74 @@ module _ (a b : DiskHealth) (n x : ℕ) (first : IsUsed a b n x) where
       by_one = second.rose.by_one ∙ ap one_more first.same;
       later = omega (arith, first.same, second.rose.later);
     };
-    lacking = λ sure. ⊎_elim (λ is. inl (planned_before k all sum is)) (λ is. inr (more is))
-        (second.lacking (omega (arith, sure, sum, first.calls_left)));
+    made = n + second.made;
+    few = omega (arith, sum, second.few);
+    unplanned = λ is. second.unplanned (planned_behind second.made (n + second.made) refl is);
+    lacking = λ sure. ⊎_elim (λ is. inl (planned_before (second.made + 1) (n + second.made + 1) (omega arith) is)) (λ is. inr (more is))
+        (second.lacking (omega (arith, sure, first.calls_left)));
     stays = λ is. second.stays (first.going ∙ is);
+    stops = λ is. ⊎_elim (λ stopped. inl (sym first.going ∙ stopped)) (λ here. inr (omega (arith, here, first.stop_left))) (second.stops is);
     calls_kept = omega (arith, first.calls_kept, second.calls_kept);
     room_kept = omega (arith, first.room_kept, second.room_kept);
   }
 
   -- where there was no room for the calls behind, there was none for all
-  pub crowded_behind : (k y all both : ℕ) → n + k ≤ all → x + y ≤ both → IsCrowded b k y → IsCrowded a all both
+  crowded_behind : (k y all both : ℕ) → n + k ≤ all → x + y ≤ both → IsCrowded b k y → IsCrowded a all both
   crowded_behind k y all both sum bytes (inl less) = inl (omega (arith, sum, less, first.calls_left))
   crowded_behind k y all both sum bytes (inr less) = inr (omega (arith, bytes, less, first.room_left))
+
+  -- the cause of an answer, too
+  pub cause_behind : (c : DiskHealth) (k y all both : ℕ) (L M : Type 0) (answer : DiskAnswer) → n + k ≡ all → x + y ≡ both → (L → M) →
+      HasCause b c k y L answer → HasCause a c all both M answer
+  cause_behind c k y all both L M Done sum bytes more second = used_behind c k y all both sum bytes second
+  cause_behind c k y all both L M Failed sum bytes more second = fault_behind c k all L M (omega (arith, sum)) more second
+
+  -- what is left out behind them is left out of all
+  pub left_out_behind : (c : DiskHealth) (made y all both : ℕ) → n + made ≡ all → x + y ≤ both → IsLeftOut b c made y → IsLeftOut a c all both
+  left_out_behind c made y all both sum bytes is = record {
+    unplanned = λ due. is.unplanned (planned_behind made all sum due);
+    crowded = crowded_behind (made + 1) y (all + 1) both (omega (arith, sum)) bytes is.crowded;
+    going = is.going ∙ first.going;
+  }
+
+  -- also one that writes nothing, which wants no room for bytes
+  pub unwritten_behind : (c : DiskHealth) (made all : ℕ) → n + made ≡ all → IsLeftOut b c made 0 → IsLeftOut a c all 0
+  unwritten_behind c made all sum is = record {
+    unplanned = λ due. is.unplanned (planned_behind made all sum due);
+    crowded = ⊎_elim (λ less. inl (omega (arith, sum, less, first.calls_left))) (λ less. absurd (omega (arith, less))) is.crowded;
+    going = is.going ∙ first.going;
+  }
 
 -- of more calls than there were
 pub fault_wider : (a b : DiskHealth) (n all : ℕ) (L M : Type 0) → n ≤ all → (L → M) → DiskFault a b n L → DiskFault a b all M
 fault_wider a b n all L M sum more is = fault_behind a a 0 0 (used_none a) b n all L M (omega (arith, sum)) more is
 
-pub crowded_wider : (a : DiskHealth) (n x all both : ℕ) → n ≤ all → x ≤ both → IsCrowded a n x → IsCrowded a all both
-crowded_wider a n x all both sum bytes is = crowded_behind a a 0 0 (used_none a) n x all both (omega (arith, sum)) (omega (arith, bytes)) is
+-- with room for more bytes
+pub left_out_wider : (a c : DiskHealth) (made x both : ℕ) → x ≤ both → IsLeftOut a c made x → IsLeftOut a c made both
+left_out_wider a c made x both bytes is = left_out_behind a a 0 0 (used_none a) c made x made both (omega arith) (omega (arith, bytes)) is
+
+-- a call that fails on a disk that goes on was to fail, or is left out
+module _ (a c : DiskHealth) (all x : ℕ) (on : a.stopped ≡ false) (fault : DiskFault a c all (a.room < x)) where
+  due : IsPlanned a (fault.made + 1) → IsPlanned a all
+  due is = planned_before a a 0 0 (used_none a) (fault.made + 1) all (omega (arith, fault.few)) is
+
+  left_out : c.stopped ≡ false → IsCrowded a (fault.made + 1) x → IsLeftOut a c fault.made x
+  left_out goes crowded = record { unplanned = fault.unplanned; crowded = crowded; going = goes ∙ sym on }
+
+  by_room : c.stopped ≡ false → (fault.made < a.calls) ⊎ (a.calls ≤ fault.made) → IsPlanned a all ⊎ IsLeftOut a c fault.made x
+  by_room goes (inl some) = ⊎_elim (λ is. inl (due is)) (λ less. inr (left_out goes (inr less))) (fault.lacking some)
+  by_room goes (inr none) = inr (left_out goes (inl (omega (arith, none))))
+
+  by_stop : (stopped : Bool) → c.stopped ≡ stopped → IsPlanned a all ⊎ IsLeftOut a c fault.made x
+  by_stop true is = ⊎_elim (λ before. absurd (both before on))
+      (λ here. inl (inr (inl (omega (arith, here), omega (arith, here, fault.few))))) (fault.stops is)
+    where
+      both : a.stopped ≡ true → a.stopped ≡ false → ⊥
+      both one two = cc
+  by_stop false is = by_room is (cases_lt fault.made a.calls)
+
+  pub planned_or_left_out : IsPlanned a all ⊎ IsLeftOut a c fault.made x
+  planned_or_left_out = by_stop c.stopped refl
 
 -- a call that failed, with another want of room
 pub logs_wider : (call : DiskAnswer → DiskCall) (C E : Type 0) (before after : Option (List DiskCall)) → (C → E) → Logs call C before after Failed →
@@ -97,11 +151,23 @@ pub logs_wider : (call : DiskAnswer → DiskCall) (C E : Type 0) (before after :
 logs_wider call C E before after more (inl is) = inl (more is.0, is.1)
 logs_wider call C E before after more (inr is) = inr is
 
-pub both_wider : (at : ℕ) (bytes : List ℕ) (C E : Type 0) (before after : Option (List DiskCall)) (answer : DiskAnswer) → (C → E) →
+pub both_wider : (at : ℕ) (bytes : List ℕ) (C E : ℕ → ℕ → Type 0) (before after : Option (List DiskCall)) (answer : DiskAnswer) →
+    ((made n : ℕ) → made < 2 → n ≤ length bytes → C made n → E made n) →
     LogsBoth at bytes C before after answer → LogsBoth at bytes E before after answer
 both_wider at bytes C E before after Done more is = is
-both_wider at bytes C E before after Failed more (inl is) = inl (logs_wider (write_call at bytes) C E _ _ more is)
-both_wider at bytes C E before after Failed more (inr is) = inr (logs_wider sync_call C E _ _ more is)
+both_wider at bytes C E before after Failed more (inl is) =
+    inl (logs_wider (write_call at bytes) (C 0 (length bytes)) (E 0 (length bytes)) _ _ (more 0 (length bytes) (omega arith) (omega arith)) is)
+both_wider at bytes C E before after Failed more (inr is) =
+    inr (logs_wider sync_call (C 1 0) (E 1 0) _ _ (more 1 0 (omega arith) (omega arith)) is)
+
+-- a write that was made, and its sync
+pub both_logged : (a b c : DiskHealth) (at : ℕ) (bytes : List ℕ) (before mid after : Option (List DiskCall)) (answer : DiskAnswer) →
+    IsUsed a b 1 (length bytes) → mid ≡ with_call (write_call at bytes Done) before → Logs sync_call (IsLeftOut b c 0 0) mid after answer →
+    LogsBoth at bytes (IsLeftOut a c) before after answer
+both_logged a b c at bytes before mid after Done used written logs = logs ∙ ap (with_call (sync_call Done)) written
+both_logged a b c at bytes before mid after Failed used written logs =
+    inr (subst (λ (o : Option (List DiskCall)). Logs sync_call (IsLeftOut a c 1 0) o after Failed) written
+    (logs_wider sync_call (IsLeftOut b c 0 0) (IsLeftOut a c 1 0) mid after (unwritten_behind a b 1 (length bytes) used c 0 1 (omega arith)) logs))
 
 -- what both stretches keep: the disk, its file, and whether it tells
 pub same_then : {A B C : Type 0} {a b c : A} {x y z : B} {k l m : C} → (b ≡ a) × (y ≡ x) × (l ≡ k) →

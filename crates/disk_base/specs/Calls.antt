@@ -31,8 +31,8 @@ sync_call answer = record { kind = Sync; at = 0; size = 0; bytes = []; answer = 
 abbrev pub with_call : DiskCall → Option (List DiskCall) → Option (List DiskCall)
 with_call call calls = option_map (λ before. before ++ call ∷ []) calls
 
--- a call is in the list with its answer; one that failed may be missing where it was crowded out
+-- a call is in the list with its answer; one that failed may be missing where it was left out
 abbrev pub Logs : (DiskAnswer → DiskCall) → Type 0 → Option (List DiskCall) → Option (List DiskCall) → DiskAnswer →
     Type 0
-Logs call Crowded before after Done = after ≡ with_call (call Done) before
-Logs call Crowded before after Failed = (Crowded × (after ≡ before)) ⊎ (after ≡ with_call (call Failed) before)
+Logs call LeftOut before after Done = after ≡ with_call (call Done) before
+Logs call LeftOut before after Failed = (LeftOut × (after ≡ before)) ⊎ (after ≡ with_call (call Failed) before)

@@ -43,12 +43,25 @@ IsPlanned health calls =
 abbrev pub IsCrowded : DiskHealth → ℕ → ℕ → Type 0
 IsCrowded health calls n = (health.calls < calls) ⊎ (health.room < n)
 
--- one fault was counted, where one of this many calls was to fail, or where there was no sure room for them, or where
--- something else was lacking; a disk that had stopped is so still, and there is room for no more than before
+-- a call isn't listed, behind so many that were made, none of which was to fail: there was no sure room for it, where
+-- all of them write n bytes, and the disk hasn't stopped at it
+pub record IsLeftOut (before now : DiskHealth) (made n : ℕ) : Type 0 where
+  pub unplanned : IsPlanned before made → ⊥
+  pub crowded : IsCrowded before (made + 1) n
+  pub going : now.stopped ≡ before.stopped
+
+-- one fault was counted: of this many calls some first ones were made, none of which was to fail, and the next one
+-- failed, where it was to fail, or where there was no sure room for it, or where something else was lacking. A disk
+-- that had stopped is so still, and one stops at the call that was to stop it and nowhere else; there is room for no
+-- more than before
 pub record DiskFault (before now : DiskHealth) (calls : ℕ) (Lacking : Type 0) : Type 0 where
   pub rose : Rose before.faults now.faults
-  pub lacking : calls ≤ before.calls → IsPlanned before calls ⊎ Lacking
+  pub made : ℕ
+  pub few : made < calls
+  pub unplanned : IsPlanned before made → ⊥
+  pub lacking : made < before.calls → IsPlanned before (made + 1) ⊎ Lacking
   pub stays : before.stopped ≡ true → now.stopped ≡ true
+  pub stops : now.stopped ≡ true → (before.stopped ≡ true) ⊎ (before.stop_in ≡ made + 1)
   pub calls_kept : now.calls ≤ before.calls
   pub room_kept : now.room ≤ before.room
 

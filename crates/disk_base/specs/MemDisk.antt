@@ -6,7 +6,7 @@ use Rattle.disk_base.specs.Cut.{image_of}
 use Rattle.disk_base.specs.Disk.{file_behind}
 use Rattle.disk_base.specs.Faults.{DiskHealth, one_more}
 use Rattle.disk_base.specs.Listed.{next_story}
-use Rattle.disk_base.specs.Plan.{next_answer, next_plan, no_faults}
+use Rattle.disk_base.specs.Plan.{next_answer, next_plan, no_faults, refused_plan}
 use Rattle.disk_base.specs.Story.{Story, settled_story}
 use Rattle.disk_base.specs.declared.cut.CutChoice.{CutChoice}
 use Rattle.disk_base.specs.declared.disk.CallKind.{CallKind}
@@ -73,9 +73,9 @@ answer_due kind size s = answer_planned kind size (disk_size s) (next_answer s.p
 abbrev pub answer_of : DiskCall → DiskState → DiskAnswer
 answer_of call s = if is_full (length call.bytes) s then Failed else call.answer
 
--- a call that isn't in the list
+-- a call that isn't in the list: it isn't made, and the disk doesn't stop at it
 abbrev pub after_refusal : DiskState → DiskState
-after_refusal s = record s { plan = next_plan s.plan; faults = one_more s.faults }
+after_refusal s = record s { plan = refused_plan s.plan; faults = one_more s.faults }
 
 abbrev pub faults_after : DiskAnswer → ℕ → ℕ
 faults_after Done faults = faults

@@ -12,10 +12,18 @@ no_faults = record { fail_in = 0; stop_in = 0; stopped = false }
 abbrev pub next_answer : FaultPlan → DiskAnswer
 next_answer plan = if plan.stopped || (plan.fail_in == 1 || plan.stop_in == 1) then Failed else Done
 
--- the plan behind the next call
+-- the plan behind the next call, where that is made
 abbrev pub next_plan : FaultPlan → FaultPlan
 next_plan plan = record {
   fail_in = plan.fail_in - 1;
   stop_in = plan.stop_in - 1;
   stopped = plan.stopped || plan.stop_in == 1;
+}
+
+-- and where it is refused: a stop that was to come at it comes at the next one
+abbrev pub refused_plan : FaultPlan → FaultPlan
+refused_plan plan = record {
+  fail_in = plan.fail_in - 1;
+  stop_in = if plan.stop_in == 1 then 1 else plan.stop_in - 1;
+  stopped = plan.stopped;
 }

@@ -3,7 +3,7 @@
 ghost use Rattle.std.specs.Prelude.{◌≡◌, ◌+◌, ◌<◌, ◌≤◌, ℕ, false, List, Option, Some, length};
 ghost use Rattle.disk_base.specs.Calls.{DiskCall, Logs, attach_call, read_call, sync_call, write_call};
 ghost use Rattle.disk_base.specs.Disk.{Attaches, HasSize, Reads, Syncs, TellsAsBefore, TellsBytes, Writes, file_behind};
-ghost use Rattle.disk_base.specs.Faults.{DiskHealth, GoesAsListed, HasCause, IsCrowded};
+ghost use Rattle.disk_base.specs.Faults.{DiskHealth, GoesAsListed, HasCause, IsLeftOut};
 ghost use Rattle.disk_base.specs.Listed.{AsListed};
 ghost use Rattle.disk_base.specs.Story.{Story};
 
@@ -40,9 +40,9 @@ pub trait Disk {
     /// How many faults were counted, for how many more calls and written bytes there is room for sure, 0 over a real
     /// file, and which calls to come are to fail. The count rises by one where a call fails, and stands at every other
     /// call and at 2^64 - 1. Where there is room, a call fails only if it is to fail, and is listed all the same. A
-    /// disk stops at a call that fails, and stays so: then the list may have calls that changed nothing. Until then
-    /// each read, write and sync that is listed has changed what its entry says, also one that failed, on a disk that
-    /// tells that its calls do so; on any other a write that fails may have changed its range in any way.
+    /// disk stops at a call that fails and is listed, and stays so: then the list may have calls that changed nothing.
+    /// Until then each read, write and sync that is listed has changed what its entry says, also one that failed, on a
+    /// disk that tells that its calls do so; on any other a write that fails may have changed its range in any way.
     ghost health: { Self → DiskHealth };
 
     /// Which disk it is. No call changes it.
@@ -58,7 +58,7 @@ pub trait Disk {
         ensures told { Attaches grow (told self.old) (told self.new) }
         ensures bytes { TellsBytes (told self.new) }
         ensures size { HasSize grow (size_is self.new) result }
-        ensures calls { Logs (attach_call grow) (IsCrowded (health self.old) 1 0)
+        ensures calls { Logs (attach_call grow) (IsLeftOut (health self.old) (health self.new) 0 0)
             (calls self.old) (calls self.new) result }
         ensures cause { HasCause (health self.old) (health self.new) 1 0 (size_is self.old < grow) result }
         ensures file { file_is self.new ≡ file_behind file.now result (file_is self.old) }
@@ -74,7 +74,7 @@ pub trait Disk {
         ensures bytes { Reads (told self.old) at into.new result }
         ensures told { told self.new ≡ told self.old }
         ensures size { size_is self.new ≡ size_is self.old }
-        ensures calls { Logs (read_call at (length into.old)) (IsCrowded (health self.old) 1 0)
+        ensures calls { Logs (read_call at (length into.old)) (IsLeftOut (health self.old) (health self.new) 0 0)
             (calls self.old) (calls self.new) result }
         ensures listed { GoesAsListed (health self.old) →
             AsListed (told self.old) (calls self.old) (told self.new) (calls self.new) }
@@ -88,8 +88,8 @@ pub trait Disk {
         requires { at + length bytes.now ≤ size_is self.old }
         ensures told { Writes (told self.old) at bytes.now (told self.new) result }
         ensures size { size_is self.new ≡ size_is self.old }
-        ensures calls { Logs (write_call at bytes.now) (IsCrowded (health self.old) 1 (length bytes.now))
-            (calls self.old) (calls self.new) result }
+        ensures calls { Logs (write_call at bytes.now)
+            (IsLeftOut (health self.old) (health self.new) 0 (length bytes.now)) (calls self.old) (calls self.new) result }
         ensures listed { GoesAsListed (health self.old) →
             AsListed (told self.old) (calls self.old) (told self.new) (calls self.new) }
         ensures cause { HasCause (health self.old) (health self.new) 1 (length bytes.now)
@@ -101,7 +101,8 @@ pub trait Disk {
     fn sync(&mut self) -> DiskAnswer
         ensures told { Syncs (told self.old) (told self.new) result }
         ensures size { size_is self.new ≡ size_is self.old }
-        ensures calls { Logs sync_call (IsCrowded (health self.old) 1 0) (calls self.old) (calls self.new) result }
+        ensures calls { Logs sync_call (IsLeftOut (health self.old) (health self.new) 0 0)
+            (calls self.old) (calls self.new) result }
         ensures listed { GoesAsListed (health self.old) →
             AsListed (told self.old) (calls self.old) (told self.new) (calls self.new) }
         ensures cause { HasCause (health self.old) (health self.new) 1 0 ⊥ result }

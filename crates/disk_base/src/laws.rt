@@ -26,11 +26,11 @@ pub fn settle_keeps_other_bytes()
         GoesThrough s after (IsOverIn s.now.bytes from size at (length bytes)) }
 {}
 
-/// A write with its sync that failed on a disk whose calls come to what is listed, though nothing was crowded out of the
+/// A write with its sync that failed on a disk whose calls come to what is listed, though nothing was left out of the
 /// list and the disk hadn't stopped, has written its bytes, whichever of its two calls failed.
 pub fn failed_settle_has_written()
     ensures { (s : Story) (at : ℕ) (bytes : List ℕ) (all : List DiskCall) (after : Option Story)
-        (calls : Option (List DiskCall)) → LogsBoth at bytes ⊥ (Some all) calls Failed →
+        (calls : Option (List DiskCall)) → LogsBoth at bytes (λ made n. ⊥) (Some all) calls Failed →
         AsListed (Some s) (Some all) after calls → after ≡ Some (with_write at bytes s) }
 {}
 

@@ -5,7 +5,7 @@ ghost use Rattle.std.specs.Prelude.{Option, Some, [], length, replicate, refl, A
 ghost use Rattle.disk_base.specs.Calls.{Logs, attach_call, read_call, sync_call, write_call};
 ghost use Rattle.disk_base.specs.Cut.{image_of, marks_of, settled_bytes};
 ghost use Rattle.disk_base.specs.Disk.{Attaches, HasSize, Reads, Syncs, TellsBytes, Writes};
-ghost use Rattle.disk_base.specs.Faults.{GoesAsListed, HasCause, IsCrowded};
+ghost use Rattle.disk_base.specs.Faults.{GoesAsListed, HasCause, IsLeftOut};
 ghost use Rattle.disk_base.specs.Images.{IsImage};
 ghost use Rattle.disk_base.specs.Listed.{AsListed};
 ghost use Rattle.disk_base.specs.MemDisk.{after_attaching, after_call, after_cut, answer_of, answer_planned, call_due};
@@ -100,7 +100,8 @@ impl MemDisk {
 
     /// Plans that the disk stops at a call, the next one for 1, and at none for 0: this call fails, and so do all that
     /// follow. This replaces what was planned so before, and wakes no disk that has stopped. A write at which the disk
-    /// stops has changed its range, and no later one does.
+    /// stops has changed its range, and no later one does. Where the call isn't listed, which then changes nothing, the
+    /// disk stops at the next one that is.
     pub fn stop_at(&mut self, call: u32)
         ensures { self.new ≡ record self.old { plan = record self.old.plan { stop_in = call } } }
     {
@@ -114,8 +115,8 @@ impl MemDisk {
         self.plan.stop_in
     }
 
-    /// Whether the call was made from which on all fail. Stopped or not, a crash leaves one of the images, whatever is
-    /// chosen.
+    /// Whether the call was made, and is listed, from which on all fail. Stopped or not, a crash leaves one of the
+    /// images, whatever is chosen.
     pub fn stopped(&self) -> bool
         ensures stopped { result ≡ self.now.plan.stopped }
         ensures images { (choice : CutChoice) → IsImage self.now.story.now (image_of choice self.now.story) }
@@ -187,14 +188,15 @@ impl MemDisk {
         ensures answer { result ≡ answer_of (call_due kind at size bytes.now self.old) self.old }
         ensures state { self.new ≡ after_call (call_due kind at size bytes.now self.old) self.old }
     {
-        let stopped = self.plan.stopped;
-        let planned = self.plan.step();
-        let answer = judge(kind, size, self.bytes.len() as u64, planned);
         let room = self.room - self.written.len();
         if is_crowded(self.entries.len(), self.most, room, bytes.len()) {
+            self.plan.refuse();
             self.faults = self.faults.saturating_add(1);
             return DiskAnswer::Failed;
         }
+        let stopped = self.plan.stopped;
+        let planned = self.plan.step();
+        let answer = judge(kind, size, self.bytes.len() as u64, planned);
         let count = bytes.len();
         let entry = LoggedCall {
             kind,
@@ -288,7 +290,7 @@ impl Disk for MemDisk {
         ensures told { Attaches grow (Some self.old.story) (Some self.new.story) }
         ensures bytes { TellsBytes (Some self.new.story) }
         ensures size { HasSize grow (disk_size self.new) result }
-        ensures calls { Logs (attach_call grow) (IsCrowded (disk_health self.old) 1 0)
+        ensures calls { Logs (attach_call grow) (IsLeftOut (disk_health self.old) (disk_health self.new) 0 0)
             (Some self.old.calls) (Some self.new.calls) result }
         ensures cause { HasCause (disk_health self.old) (disk_health self.new) 1 0 (disk_size self.old < grow) result }
         ensures answer { result ≡ answer_of (next_attach grow self.old) self.old }
@@ -314,7 +316,8 @@ impl Disk for MemDisk {
         ensures bytes { Reads (Some self.old.story) at into.new result }
         ensures told { Some self.new.story ≡ Some self.old.story }
         ensures size { disk_size self.new ≡ disk_size self.old }
-        ensures calls { Logs (read_call at (length into.old)) (IsCrowded (disk_health self.old) 1 0)
+        ensures calls { Logs (read_call at (length into.old))
+            (IsLeftOut (disk_health self.old) (disk_health self.new) 0 0)
             (Some self.old.calls) (Some self.new.calls) result }
         ensures listed { GoesAsListed (disk_health self.old) →
             AsListed (Some self.old.story) (Some self.old.calls) (Some self.new.story) (Some self.new.calls) }
@@ -338,7 +341,8 @@ impl Disk for MemDisk {
         requires { at + length bytes.now ≤ disk_size self.old }
         ensures told { Writes (Some self.old.story) at bytes.now (Some self.new.story) result }
         ensures size { disk_size self.new ≡ disk_size self.old }
-        ensures calls { Logs (write_call at bytes.now) (IsCrowded (disk_health self.old) 1 (length bytes.now))
+        ensures calls { Logs (write_call at bytes.now)
+            (IsLeftOut (disk_health self.old) (disk_health self.new) 0 (length bytes.now))
             (Some self.old.calls) (Some self.new.calls) result }
         ensures listed { GoesAsListed (disk_health self.old) →
             AsListed (Some self.old.story) (Some self.old.calls) (Some self.new.story) (Some self.new.calls) }
@@ -353,7 +357,7 @@ impl Disk for MemDisk {
     fn sync(&mut self) -> DiskAnswer
         ensures told { Syncs (Some self.old.story) (Some self.new.story) result }
         ensures size { disk_size self.new ≡ disk_size self.old }
-        ensures calls { Logs sync_call (IsCrowded (disk_health self.old) 1 0)
+        ensures calls { Logs sync_call (IsLeftOut (disk_health self.old) (disk_health self.new) 0 0)
             (Some self.old.calls) (Some self.new.calls) result }
         ensures listed { GoesAsListed (disk_health self.old) →
             AsListed (Some self.old.story) (Some self.old.calls) (Some self.new.story) (Some self.new.calls) }

@@ -1,7 +1,7 @@
 //! A write with its sync, the pair of calls by which the cells and slots above change their bytes.
 
 ghost use Rattle.std.specs.Prelude.{◌≡◌, ◌+◌, ◌<◌, ◌≤◌, false, length};
-ghost use Rattle.disk_base.specs.Faults.{GoesAsListed, HasCause, IsCrowded};
+ghost use Rattle.disk_base.specs.Faults.{GoesAsListed, HasCause, IsLeftOut};
 ghost use Rattle.disk_base.specs.Listed.{AsListed};
 ghost use Rattle.disk_base.specs.SameDisk.{IsSameDisk};
 ghost use Rattle.disk_base.specs.Settle.{LogsBoth, Settles};
@@ -14,7 +14,7 @@ pub fn settle<D: Disk>(disk: &mut D, at: u64, bytes: &[u8]) -> DiskAnswer
     requires { at + length bytes.now ≤ D.size_is disk.old }
     ensures told { Settles (D.told disk.old) at bytes.now (D.told disk.new) result }
     ensures size { D.size_is disk.new ≡ D.size_is disk.old }
-    ensures calls { LogsBoth at bytes.now (IsCrowded (D.health disk.old) 2 (length bytes.now))
+    ensures calls { LogsBoth at bytes.now (IsLeftOut (D.health disk.old) (D.health disk.new))
         (D.calls disk.old) (D.calls disk.new) result }
     ensures listed { GoesAsListed (D.health disk.old) →
         AsListed (D.told disk.old) (D.calls disk.old) (D.told disk.new) (D.calls disk.new) }

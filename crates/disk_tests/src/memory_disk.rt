@@ -69,6 +69,26 @@ fn calls_fail_where_they_are_to(rt: HostRuntime) -> Result<(), Fail> {
     Ok(())
 }
 
+// Whether a disk that is to stop at a write for which its list has no room fails there and stops at the sync behind it,
+// the next call that it lists.
+fn stops_where_it_lists(alloc: Global) -> bool {
+    let Ok(mut disk) = MemDisk::new(alloc, 8, 4, 1) else {
+        return false;
+    };
+    disk.stop_at(1);
+    let refused = disk.write(0, &[1, 2]) == DiskAnswer::Failed && !disk.stopped();
+    refused
+        && disk.sync() == DiskAnswer::Failed
+        && disk.stopped()
+        && disk.sync() == DiskAnswer::Failed
+}
+
+#[test]
+fn a_call_that_is_not_listed_stops_no_disk(rt: HostRuntime) -> Result<(), Fail> {
+    assert!(rt; stops_where_it_lists(rt.alloc()));
+    Ok(())
+}
+
 // Whether an attaching that asks for too much fails, and takes the one place in the list.
 fn lists_what_failed(alloc: Global) -> bool {
     let Ok(mut disk) = MemDisk::new(alloc, 8, 1, 0) else {

@@ -3,6 +3,7 @@ use Rattle.std.proofs.Common.{ℕ, refl, inl, inr, arith}
 use Rattle.disk_base.specs.Faults.{HasCause, IsPlanned}
 use Rattle.disk_base.specs.declared.disk.DiskAnswer.{DiskAnswer}
 use Rattle.disk_base.specs.declared.disk.DiskAnswer.TheVariants.{Done, Failed}
+use Rattle.disk_base.proofs.Stretches.{none_planned}
 use Rattle.file_disk.specs.FileDisk.{Counts, file_health}
 
 -- no call is to fail
@@ -27,8 +28,12 @@ counted before now n Lacking Done same = record {
 }
 counted before now n Lacking Failed rose = record {
   rose = rose;
+  made = 0;
+  few = omega arith;
+  unplanned = none_planned (file_health before);
   lacking = λ one. absurd (omega (arith, one));
   stays = λ stopped. absurd cc;
+  stops = λ stopped. absurd cc;
   calls_kept = omega arith;
   room_kept = omega arith;
 }

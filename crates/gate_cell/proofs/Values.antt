@@ -203,7 +203,8 @@ module _ (before mid after : Option Story) (s : Story) (at value place : ℕ) (b
 
 module _ (s : Story) (at value place : ℕ) (bytes : List ℕ) (there : place ≡ spare_place at (cell_in s.now.bytes at))
     (is : bytes ≡ copy_bytes value) where
-  pub logs_spare : (C E : Type 0) → (C → E) → (before mid after : Option (List DiskCall)) (answer : DiskAnswer) → mid ≡ before →
+  pub logs_spare : (C E : ℕ → ℕ → Type 0) → ((made n : ℕ) → made < 2 → n ≤ length bytes → C made n → E made n) →
+      (before mid after : Option (List DiskCall)) (answer : DiskAnswer) → mid ≡ before →
       LogsBoth place bytes C mid after answer →
       LogsBoth (spare_place at (cell_in s.now.bytes at)) (copy_bytes value) E before after answer
   logs_spare C E more before mid after answer same logs =

@@ -22,13 +22,13 @@ ReadsCell s at (Value value) = IsRead s at value
 ReadsCell s at cell.Failed = Unit {0}
 
 -- a read of the gate, and a write of the other copy with its sync; where this failed, the last one of them did, or it
--- was crowded out
-abbrev pub LogsPreparing : Story → ℕ → ℕ → Type 0 → Option (List DiskCall) → Option (List DiskCall) → DiskAnswer →
-    Type 0
-LogsPreparing s at value Crowded before after Done =
-    LogsBoth (spare_place at (cell_in s.now.bytes at)) (copy_bytes value) Crowded
+-- was left out
+abbrev pub LogsPreparing : Story → ℕ → ℕ → (ℕ → ℕ → Type 0) → Option (List DiskCall) → Option (List DiskCall) →
+    DiskAnswer → Type 0
+LogsPreparing s at value LeftOut before after Done =
+    LogsBoth (spare_place at (cell_in s.now.bytes at)) (copy_bytes value) (λ made n. LeftOut (1 + made) n)
     (with_call (read_call (at + 16) 1 Done) before) after Done
-LogsPreparing s at value Crowded before after Failed =
-    Logs (read_call (at + 16) 1) Crowded before after Failed
-    ⊎ LogsBoth (spare_place at (cell_in s.now.bytes at)) (copy_bytes value) Crowded
+LogsPreparing s at value LeftOut before after Failed =
+    Logs (read_call (at + 16) 1) (LeftOut 0 0) before after Failed
+    ⊎ LogsBoth (spare_place at (cell_in s.now.bytes at)) (copy_bytes value) (λ made n. LeftOut (1 + made) n)
     (with_call (read_call (at + 16) 1 Done) before) after Failed

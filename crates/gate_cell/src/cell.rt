@@ -3,7 +3,7 @@
 ghost use Rattle.std.specs.Prelude.{◌≡◌, ◌+◌, ◌≤◌, false, Some, length};
 ghost use Rattle.std.specs.Int.{w64, from_be_bytes};
 ghost use Rattle.disk_base.specs.Calls.{Logs, read_call};
-ghost use Rattle.disk_base.specs.Faults.{GoesAsListed, HasCause, IsCrowded};
+ghost use Rattle.disk_base.specs.Faults.{GoesAsListed, HasCause, IsLeftOut};
 ghost use Rattle.disk_base.specs.Listed.{AsListed};
 ghost use Rattle.disk_base.specs.SameDisk.{IsSameDisk};
 ghost use Rattle.disk_base.specs.Story.{Story};
@@ -87,8 +87,8 @@ pub fn read_cell<D: Disk>(disk: &mut D, at: u64) -> CellAnswer
     ensures value { (s : Story) → D.told disk.old ≡ Some s → ReadsCell s at result }
     ensures told { D.told disk.new ≡ D.told disk.old }
     ensures size { D.size_is disk.new ≡ D.size_is disk.old }
-    ensures calls { Logs (read_call at 17) (IsCrowded (D.health disk.old) 1 0) (D.calls disk.old) (D.calls disk.new)
-        (call_answer result) }
+    ensures calls { Logs (read_call at 17) (IsLeftOut (D.health disk.old) (D.health disk.new) 0 0)
+        (D.calls disk.old) (D.calls disk.new) (call_answer result) }
     ensures listed { GoesAsListed (D.health disk.old) →
         AsListed (D.told disk.old) (D.calls disk.old) (D.told disk.new) (D.calls disk.new) }
     ensures cause { HasCause (D.health disk.old) (D.health disk.new) 1 0 ⊥ (call_answer result) }

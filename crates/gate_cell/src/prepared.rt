@@ -1,7 +1,7 @@
 //! The second half of a change: the new value is written and doesn't count, and a commit lets it.
 
 ghost use Rattle.std.specs.Prelude.{◌≡◌, ◌+◌, ◌<◌, ◌≤◌, false, [], ◌∷◌, None, Some, IfOk};
-ghost use Rattle.disk_base.specs.Faults.{GoesAsListed, HasCause, IsCrowded};
+ghost use Rattle.disk_base.specs.Faults.{GoesAsListed, HasCause, IsLeftOut};
 ghost use Rattle.disk_base.specs.Listed.{AsListed};
 ghost use Rattle.disk_base.specs.SameDisk.{IsSameDisk};
 ghost use Rattle.disk_base.specs.Settle.{LogsBoth};
@@ -41,7 +41,7 @@ impl<D: Disk> Prepared<D> {
             IfOk result (λ after. IsCommitted s self.at (D.told after)) }
         ensures size { OnDisk (λ disk. disk) result (λ after answer. D.size_is after ≡ D.size_is self.disk) }
         ensures calls { OnDisk (λ disk. disk) result (λ after answer.
-            LogsBoth (self.at + 16) (byte_of self.second ∷ []) (IsCrowded (D.health self.disk) 2 1)
+            LogsBoth (self.at + 16) (byte_of self.second ∷ []) (IsLeftOut (D.health self.disk) (D.health after))
             (D.calls self.disk) (D.calls after) answer) }
         ensures listed { GoesAsListed (D.health self.disk) → OnDisk (λ disk. disk) result (λ after answer.
             AsListed (D.told self.disk) (D.calls self.disk) (D.told after) (D.calls after)) }

@@ -1,7 +1,7 @@
 //! The first half of a change: the new value goes into the copy that doesn't count.
 
 ghost use Rattle.std.specs.Prelude.{◌≡◌, ◌+◌, ◌<◌, ◌≤◌, false, not, None, Some, IfOk};
-ghost use Rattle.disk_base.specs.Faults.{GoesAsListed, HasCause, IsCrowded};
+ghost use Rattle.disk_base.specs.Faults.{GoesAsListed, HasCause, IsLeftOut};
 ghost use Rattle.disk_base.specs.Listed.{AsListed};
 ghost use Rattle.disk_base.specs.SameDisk.{IsSameDisk};
 ghost use Rattle.disk_base.specs.Story.{Story};
@@ -27,7 +27,7 @@ pub fn prepare<D: Disk>(disk: D, at: u64, value: u64) -> Result<Prepared<D>, D>
         IfOk result (λ w. w.second ≡ not (cell_in s.now.bytes at).second) }
     ensures size { OnDisk (λ w. w.disk) result (λ after answer. D.size_is after ≡ D.size_is disk) }
     ensures calls { (s : Story) → D.told disk ≡ Some s → OnDisk (λ w. w.disk) result (λ after answer.
-        LogsPreparing s at value (IsCrowded (D.health disk) 3 8) (D.calls disk) (D.calls after) answer) }
+        LogsPreparing s at value (IsLeftOut (D.health disk) (D.health after)) (D.calls disk) (D.calls after) answer) }
     ensures listed { GoesAsListed (D.health disk) → OnDisk (λ w. w.disk) result (λ after answer.
         AsListed (D.told disk) (D.calls disk) (D.told after) (D.calls after)) }
     ensures cause { OnDisk (λ w. w.disk) result (λ after answer.

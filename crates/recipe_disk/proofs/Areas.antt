@@ -5,8 +5,8 @@ use Rattle.std.proofs.lemmas.Bool.Decides.{nat_tests}
 use Rattle.std.specs.Cmp.Lexicographic.{nat_list_cmp_total}
 use Rattle.std.specs.FinMap.{contains_key, get, get-insert, get-remove, insert, len, len-insert, len-remove, remove}
 use Rattle.gem_recipes.specs.Recipes.{Recipe, Recipes, by_bytes}
-use Rattle.spool_slots.proofs.Firsts.{both_none, first_none, none_below}
-use Rattle.spool_slots.specs.Area.{first_at, or_else}
+use Rattle.spool_file.specs.Area.{first_at, or_else}
+use Rattle.spool_file.proofs.Firsts.{both_none, first_none, none_below}
 use Rattle.recipe_disk.specs.File.{area_break, fields_at, in_slot, names_break, number_at}
 use Rattle.recipe_disk.specs.Map.{IsHolder, IsNoName, IsTidy, any_below, has_number, recipes_below, with_slot}
 use Rattle.recipe_disk.specs.Slot.{RecipeSlot, fields_break, head_break, is_open, name_of, number_of, recipe_of, slot_place}

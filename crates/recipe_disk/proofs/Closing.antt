@@ -10,7 +10,7 @@ use Rattle.disk_base.specs.declared.disk.Disk as disk
 use Rattle.disk_base.specs.declared.disk.DiskAnswer.{DiskAnswer}
 use Rattle.disk_base.specs.declared.disk.DiskAnswer.TheVariants.{Done, Failed}
 use Rattle.disk_base.proofs.Moments.{only_now, starts, through_both}
-use Rattle.spool_slots.proofs.Firsts.{one_more}
+use Rattle.spool_file.proofs.Firsts.{one_more}
 use Rattle.spool_slots.specs.Changes.{HasSettled}
 use Rattle.recipe_disk.specs.File.{StandsFor, recipes_in}
 use Rattle.recipe_disk.specs.Map.{IsHolder, any_below}

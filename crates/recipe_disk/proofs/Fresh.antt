@@ -14,8 +14,8 @@ use Rattle.disk_base.specs.declared.disk.Disk as disk
 use Rattle.disk_base.specs.declared.disk.DiskAnswer.TheVariants.{Done}
 use Rattle.disk_base.proofs.Marks.{length-part}
 use Rattle.gem_recipes.specs.Recipes.{Recipe, Recipes, by_bytes}
-use Rattle.spool_slots.specs.Area.{or_else}
-use Rattle.spool_slots.specs.Added.{WritesOrSyncs}
+use Rattle.spool_file.specs.Added.{WritesOrSyncs}
+use Rattle.spool_file.specs.Area.{or_else}
 use Rattle.recipe_disk.specs.Changes.{Rests}
 use Rattle.recipe_disk.specs.File.{front_break, front_in, magic, magic_break, recipes_in, slots_break, slots_in, slots_of}
 use Rattle.recipe_disk.specs.Map.{IsTidy, recipes_below}

@@ -4,7 +4,7 @@ use Rattle.std.proofs.lemmas.List.{take_min}
 use Rattle.disk_base.specs.Story.{Story, bytes_at}
 use Rattle.disk_base.specs.declared.disk.Disk as disk
 use Rattle.disk_base.specs.declared.disk.DiskAnswer.TheVariants.{Done}
-use Rattle.spool_slots.specs.Reading.{IsBreak}
+use Rattle.spool_file.specs.Reading.{IsBreak}
 use Rattle.recipe_disk.specs.File.{front_break, front_in, slots_in, slots_of}
 use Rattle.recipe_disk.specs.Reading.{Finds, FrontSays, HasLooked, reading_answer}
 use Rattle.recipe_disk.specs.declared.reading.Reading.{Reading}

@@ -9,8 +9,8 @@ use Rattle.disk_base.specs.Story.{Story, with_part}
 use Rattle.disk_base.specs.declared.disk.DiskAnswer.{DiskAnswer}
 use Rattle.disk_base.specs.declared.disk.DiskAnswer.TheVariants.{Done, Failed}
 use Rattle.gem_recipes.specs.Recipes.{most_body}
-use Rattle.spool_slots.proofs.Firsts.{one_more}
-use Rattle.spool_slots.specs.Area.{first_at, or_else}
+use Rattle.spool_file.specs.Area.{first_at, or_else}
+use Rattle.spool_file.proofs.Firsts.{one_more}
 use Rattle.recipe_disk.specs.Changes.{parts_of}
 use Rattle.recipe_disk.specs.Hints.{AreHints, KnowsSlots, StillKnows, hint_in, is_there, may_be, print_of, shut, sought_print}
 use Rattle.recipe_disk.specs.Map.{any_below}

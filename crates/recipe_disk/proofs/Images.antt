@@ -8,8 +8,8 @@ use Rattle.disk_base.specs.Story.{bytes_at, with_part}
 use Rattle.disk_base.proofs.Marks.{beside, length-part, not_either, outside_part}
 use Rattle.disk_base.proofs.Moments.{neither, out_of, part_stays}
 use Rattle.gem_recipes.specs.Recipes.{Recipes, most_body}
-use Rattle.spool_slots.proofs.Firsts.{both_none}
-use Rattle.spool_slots.specs.Area.{or_else}
+use Rattle.spool_file.specs.Area.{or_else}
+use Rattle.spool_file.proofs.Firsts.{both_none}
 use Rattle.recipe_disk.specs.File.{StandsFor, area_break, front_break, front_in, magic_break, recipes_break, slots_break, slots_in, slots_of}
 use Rattle.recipe_disk.specs.Map.{IsTidy, recipes_below}
 use Rattle.recipe_disk.specs.Slot.{RecipeSlot, head_break, head_of, is_open, name_of, number_of, recipe_of, slot_in, slot_place}

@@ -1,7 +1,7 @@
 -- What one call of a disk, and calls behind others, come to.
 use Rattle.std.proofs.Common.{◌≡◌, refl, subst, ◌∙◌, ℕ, inl, inr, Bool, true, false, List, Option}
 use Rattle.disk_base.specs.Calls.{DiskCall, Logs, read_call, sync_call, write_call}
-use Rattle.disk_base.specs.Faults.{DiskHealth, HasCause, IsCrowded}
+use Rattle.disk_base.specs.Faults.{DiskHealth, HasCause, IsLeftOut}
 use Rattle.disk_base.specs.SameDisk.{IsSameDisk}
 use Rattle.disk_base.specs.Settle.{LogsBoth}
 use Rattle.disk_base.specs.declared.disk.Disk as disk
@@ -10,8 +10,8 @@ use Rattle.disk_base.specs.declared.disk.DiskAnswer.TheVariants.{Done, Failed}
 use Rattle.disk_base.proofs.Stretches.{same_then}
 use Rattle.gem_recipes.specs.Keeper.{HasKeeperCause}
 use Rattle.gl_base.specs.Faults.{Rose}
-use Rattle.spool_slots.proofs.Added.{adds_as, adds_behind, adds_done, adds_failed, adds_none}
-use Rattle.spool_slots.specs.Added.{OnlyAdds}
+use Rattle.spool_file.specs.Added.{OnlyAdds}
+use Rattle.spool_file.proofs.Added.{adds_as, adds_behind, adds_done, adds_failed, adds_none}
 use Rattle.spool_slots.specs.Changes.{HasSettled}
 use Rattle.recipe_disk.specs.Reading.{HasLooked, HasMade, IsReadCall, disk_failed}
 
@@ -45,26 +45,26 @@ module _ {D : Type 0} (members : disk.Ghosts D) where
     same_disk = made.same_disk;
   }
 
-  calls_of : (Is : DiskCall → Type 0) (call : DiskAnswer → DiskCall) (Crowded : Type 0) (before after : Option (List DiskCall)) (answer : DiskAnswer) →
-      ((answer : DiskAnswer) → Is (call answer)) → Logs call Crowded before after answer → OnlyAdds Is before after
-  calls_of Is call Crowded before after Done is logs = adds_done Is (call Done) (is Done) logs
-  calls_of Is call Crowded before after Failed is logs = adds_failed Is (call Failed) (is Failed) logs
+  calls_of : (Is : DiskCall → Type 0) (call : DiskAnswer → DiskCall) (LeftOut : Type 0) (before after : Option (List DiskCall)) (answer : DiskAnswer) →
+      ((answer : DiskAnswer) → Is (call answer)) → Logs call LeftOut before after answer → OnlyAdds Is before after
+  calls_of Is call LeftOut before after Done is logs = adds_done Is (call Done) (is Done) logs
+  calls_of Is call LeftOut before after Failed is logs = adds_failed Is (call Failed) (is Failed) logs
 
   -- one call
   pub made_one : (Is : DiskCall → Type 0) (call : DiskAnswer → DiskCall) (x : ℕ) (L : Type 0) (a b : D) (answer : DiskAnswer) →
       ((answer : DiskAnswer) → Is (call answer)) → members.size_is b ≡ members.size_is a →
-      Logs call (IsCrowded (members.health a) 1 x) (members.calls a) (members.calls b) answer →
+      Logs call (IsLeftOut (members.health a) (members.health b) 0 x) (members.calls a) (members.calls b) answer →
       HasCause (members.health a) (members.health b) 1 x L answer → IsSameDisk members a b → HasMade Is members a b answer
   made_one Is call x L a b answer is size logs cause same = record {
     size = size;
-    calls = calls_of Is call (IsCrowded (members.health a) 1 x) (members.calls a) (members.calls b) answer is logs;
+    calls = calls_of Is call (IsLeftOut (members.health a) (members.health b) 0 x) (members.calls a) (members.calls b) answer is logs;
     cause = cause_of (members.health a) (members.health b) 1 x L answer cause;
     same_disk = same;
   }
 
   -- a read
   pub looked_one : (at size : ℕ) (a b : D) (answer : DiskAnswer) → members.told b ≡ members.told a → members.size_is b ≡ members.size_is a →
-      Logs (read_call at size) (IsCrowded (members.health a) 1 0) (members.calls a) (members.calls b) answer →
+      Logs (read_call at size) (IsLeftOut (members.health a) (members.health b) 0 0) (members.calls a) (members.calls b) answer →
       HasCause (members.health a) (members.health b) 1 0 ⊥ answer → IsSameDisk members a b → HasLooked members a b answer
   looked_one at size a b answer told same_size logs cause same = record {
     told = told;
@@ -81,13 +81,13 @@ module _ {D : Type 0} (members : disk.Ghosts D) where
   }
 
   -- a write with its sync
-  settled_calls : (Is : DiskCall → Type 0) (at : ℕ) (bytes : List ℕ) (Crowded : Type 0) (before after : Option (List DiskCall)) (answer : DiskAnswer) →
+  settled_calls : (Is : DiskCall → Type 0) (at : ℕ) (bytes : List ℕ) (LeftOut : ℕ → ℕ → Type 0) (before after : Option (List DiskCall)) (answer : DiskAnswer) →
       ((answer : DiskAnswer) → Is (write_call at bytes answer)) → ((answer : DiskAnswer) → Is (sync_call answer)) →
-      LogsBoth at bytes Crowded before after answer → OnlyAdds Is before after
-  settled_calls Is at bytes Crowded before after Done writes syncs logs =
+      LogsBoth at bytes LeftOut before after answer → OnlyAdds Is before after
+  settled_calls Is at bytes LeftOut before after Done writes syncs logs =
       adds_behind Is (adds_done Is (write_call at bytes Done) (writes Done) refl) (adds_done Is (sync_call Done) (syncs Done) logs)
-  settled_calls Is at bytes Crowded before after Failed writes syncs (inl logs) = adds_failed Is (write_call at bytes Failed) (writes Failed) logs
-  settled_calls Is at bytes Crowded before after Failed writes syncs (inr logs) =
+  settled_calls Is at bytes LeftOut before after Failed writes syncs (inl logs) = adds_failed Is (write_call at bytes Failed) (writes Failed) logs
+  settled_calls Is at bytes LeftOut before after Failed writes syncs (inr logs) =
       adds_behind Is (adds_done Is (write_call at bytes Done) (writes Done) refl) (adds_failed Is (sync_call Failed) (syncs Failed) logs)
 
   pub made_settled : (Is : DiskCall → Type 0) (at : ℕ) (bytes : List ℕ) (a b : D) (answer : DiskAnswer) →
@@ -95,7 +95,7 @@ module _ {D : Type 0} (members : disk.Ghosts D) where
       HasSettled members a b at bytes answer → HasMade Is members a b answer
   made_settled Is at bytes a b answer writes syncs settled = record {
     size = settled.size;
-    calls = settled_calls Is at bytes _ (members.calls a) (members.calls b) answer writes syncs settled.calls;
+    calls = settled_calls Is at bytes (IsLeftOut (members.health a) (members.health b)) (members.calls a) (members.calls b) answer writes syncs settled.calls;
     cause = cause_of (members.health a) (members.health b) 2 _ _ answer settled.cause;
     same_disk = settled.same_disk;
   }

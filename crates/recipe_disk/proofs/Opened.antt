@@ -7,8 +7,8 @@ use Rattle.disk_base.specs.declared.disk.Disk as disk
 use Rattle.disk_base.specs.declared.disk.DiskAnswer.TheVariants.{Done, Failed}
 use Rattle.disk_base.proofs.Moments.{only_now, starts, through_more}
 use Rattle.disk_base.proofs.Told.{told_already}
-use Rattle.spool_slots.specs.Reading.{IsBreak}
-use Rattle.spool_slots.specs.declared.reading.NotSpool.{NotSpool}
+use Rattle.spool_file.specs.Reading.{IsBreak}
+use Rattle.spool_file.specs.declared.reading.NotSpool.{NotSpool}
 use Rattle.recipe_disk.specs.Changes.{IsKept, Rests}
 use Rattle.recipe_disk.specs.File.{StandsFor, recipes_break, recipes_in, slots_in}
 use Rattle.recipe_disk.specs.Map.{IsTidy}

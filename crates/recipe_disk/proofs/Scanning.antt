@@ -8,8 +8,8 @@ use Rattle.std.specs.FinMap.{contains_key, get, get-empty, len, len-insert}
 use Rattle.std.specs.List.{slice_get}
 use Rattle.disk_base.specs.Story.{Story}
 use Rattle.gem_recipes.specs.Recipes.{Recipe, Recipes, by_bytes}
-use Rattle.spool_slots.proofs.Firsts.{one_more}
-use Rattle.spool_slots.specs.Area.{first_at, or_else}
+use Rattle.spool_file.specs.Area.{first_at, or_else}
+use Rattle.spool_file.proofs.Firsts.{one_more}
 use Rattle.recipe_disk.specs.File.{area_break, fields_at, front_break, front_in, in_slot, names_break, number_at, recipes_break, slots_in}
 use Rattle.recipe_disk.specs.Map.{any_below, has_name, has_number, is_new_name, is_newer, recipes_below, with_slot}
 use Rattle.recipe_disk.specs.Reading.{Breaks, Finds, SaysOf}

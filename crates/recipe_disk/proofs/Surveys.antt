@@ -6,8 +6,8 @@ use Rattle.std.specs.FinMap.{contains_key, get, len}
 use Rattle.std.specs.Prelude.{IfSome}
 use Rattle.disk_base.specs.Story.{Story}
 use Rattle.gem_recipes.specs.Recipes.{Recipe, Recipes, has_space, next_number}
-use Rattle.spool_slots.proofs.Firsts.{none_below}
-use Rattle.spool_slots.specs.Area.{first_at, or_else}
+use Rattle.spool_file.specs.Area.{first_at, or_else}
+use Rattle.spool_file.proofs.Firsts.{none_below}
 use Rattle.recipe_disk.specs.Changes.{Rests}
 use Rattle.recipe_disk.specs.File.{recipes_in}
 use Rattle.recipe_disk.specs.Map.{IsNoName, recipes_below}

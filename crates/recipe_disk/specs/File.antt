@@ -5,8 +5,8 @@ use Rattle.std.specs.Int.{w32, from_be_bytes}
 use Rattle.std.specs.Option.{option_map}
 use Rattle.disk_base.specs.Story.{bytes_at}
 use Rattle.gem_recipes.specs.Recipes.{Recipes}
-use Rattle.spool_slots.specs.Area.{first_at, or_else}
-use Rattle.spool_slots.specs.Front.{unlike_at}
+use Rattle.spool_file.specs.Area.{first_at, or_else}
+use Rattle.spool_file.specs.Front.{unlike_at}
 use Rattle.recipe_disk.specs.Map.{has_number, recipes_below}
 use Rattle.recipe_disk.specs.Slot.{RecipeSlot, head_break, is_open, number_of, slot_in, slot_place}
 

@@ -4,7 +4,7 @@ use Rattle.std.specs.List.{slice_index_or}
 use Rattle.disk_base.specs.Story.{Story}
 use Rattle.disk_base.specs.declared.disk.DiskAnswer.{DiskAnswer}
 use Rattle.disk_base.specs.declared.disk.DiskAnswer.TheVariants.{Done, Failed}
-use Rattle.spool_slots.specs.Area.{first_at}
+use Rattle.spool_file.specs.Area.{first_at}
 use Rattle.recipe_disk.specs.Reading.{is_sought}
 use Rattle.recipe_disk.specs.Slot.{RecipeSlot, head_in, name_in, slot_in}
 use Rattle.recipe_disk.specs.declared.head.Head.{Head}

@@ -13,9 +13,9 @@ use Rattle.disk_base.specs.declared.disk.Disk as disk
 use Rattle.disk_base.specs.declared.disk.DiskAnswer.{DiskAnswer}
 use Rattle.disk_base.specs.declared.disk.DiskAnswer.TheVariants.{Done, Failed}
 use Rattle.gem_recipes.specs.Recipes.{Recipes, RecipesFit}
-use Rattle.spool_slots.specs.Added.{WritesOrSyncs}
-use Rattle.spool_slots.specs.Reading.{IsBreak}
-use Rattle.spool_slots.specs.declared.reading.NotSpool.{NotSpool}
+use Rattle.spool_file.specs.Added.{WritesOrSyncs}
+use Rattle.spool_file.specs.Reading.{IsBreak}
+use Rattle.spool_file.specs.declared.reading.NotSpool.{NotSpool}
 use Rattle.recipe_disk.specs.Changes.{IsKept, Rests, recipes_told}
 use Rattle.recipe_disk.specs.File.{StandsFor, front_in, magic, recipes_break, recipes_in, slots_in}
 use Rattle.recipe_disk.specs.Map.{IsHolder}

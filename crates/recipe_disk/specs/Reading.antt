@@ -13,8 +13,8 @@ use Rattle.gem_recipes.specs.declared.keeper.RecipeDrop.{RecipeDrop}
 use Rattle.gem_recipes.specs.declared.keeper.RecipeDrop.TheVariants as deleting
 use Rattle.gem_recipes.specs.declared.keeper.RecipePut.{RecipePut}
 use Rattle.gem_recipes.specs.declared.keeper.RecipePut.TheVariants as putting
-use Rattle.spool_slots.specs.Added.{OnlyAdds}
-use Rattle.spool_slots.specs.Reading.{IsBreak}
+use Rattle.spool_file.specs.Added.{OnlyAdds}
+use Rattle.spool_file.specs.Reading.{IsBreak}
 use Rattle.recipe_disk.specs.File.{front_break, front_in, slots_of}
 use Rattle.recipe_disk.specs.Slot.{name_in, slot_place}
 use Rattle.recipe_disk.specs.declared.head.Head.{Head}

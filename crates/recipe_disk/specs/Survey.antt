@@ -1,7 +1,7 @@
 -- What is looked for in the slots of a file: a name, a slot that is free, how many names there are, and the next number
 -- (this profile).
 use Rattle.std.specs.Prelude.{◌≡◌, ◌+◌, ◌^◌, ◌<◌, ◌≤◌, ℕ, zero, suc, ◌&&◌, Bool, bytes_eq, is_none, max, nat_le, not, if◌then◌else◌, List, Option, Some, None, IfSome, Result, Ok, Err}
-use Rattle.spool_slots.specs.Area.{first_at}
+use Rattle.spool_file.specs.Area.{first_at}
 use Rattle.recipe_disk.specs.Slot.{RecipeSlot, fields_break, head_break, name_in}
 use Rattle.recipe_disk.specs.declared.head.Head.{Head}
 use Rattle.recipe_disk.specs.declared.survey.Survey.{Survey}

@@ -1,7 +1,7 @@
 //! A new file: its first page, and its slots, all closed.
 
 ghost use Rattle.std.specs.Prelude.{◌≡◌, ◌≤◌};
-ghost use Rattle.spool_slots.specs.Added.{WritesOrSyncs};
+ghost use Rattle.spool_file.specs.Added.{WritesOrSyncs};
 ghost use Rattle.recipe_disk.specs.Opening.{ClosesSlots, StandsEmpty, first_page as page_of};
 ghost use Rattle.recipe_disk.specs.Reading.{HasMade};
 ghost use Rattle.recipe_disk.specs.Slot.{slot_place as place_of};

@@ -2,14 +2,14 @@
 
 ghost use Rattle.std.specs.Prelude.{◌≡◌, ℕ, ◌+◌, ◌<◌, ◌≤◌, List, Option, Some, IfSome, length, min};
 ghost use Rattle.std.specs.List.{slice_get};
-ghost use Rattle.spool_slots.specs.Front.{unlike_at};
+ghost use Rattle.spool_file.specs.Front.{unlike_at};
 ghost use Rattle.recipe_disk.specs.File.{front_break, front_in, magic_break as wrong_magic, slots_in};
 ghost use Rattle.recipe_disk.specs.Reading.{Finds, FrontFits, FrontSays, HasLooked, reading_answer};
 
 use crate::head::slot_place;
 use crate::reading::Reading;
 use disk_base::{Disk, DiskAnswer};
-use spool_slots::NotSpool;
+use spool_file::NotSpool;
 
 /// The name at the start of such files.
 pub const MAGIC: [u8; 8] = [0x47, 0x4C, 0x52, 0x45, 0x43, 0x49, 0x50, 0x31];

@@ -4,7 +4,7 @@ ghost use Rattle.std.specs.Prelude.{◌≡◌, ◌+◌, ◌≤◌, Some};
 ghost use Rattle.recipe_disk.specs.Reading.{Breaks, HasLooked, reading_answer};
 
 use disk_base::{Disk, DiskAnswer};
-use spool_slots::NotSpool;
+use spool_file::NotSpool;
 
 /// The disk failed.
 #[derive(Clone, Copy, Debug)]

@@ -10,7 +10,7 @@ use crate::reading::Reading;
 use crate::scan::read_file;
 use crate::tidying::close_stale;
 use disk_base::{Disk, DiskAnswer};
-use spool_slots::NotSpool;
+use spool_file::NotSpool;
 use std::marker::Model;
 
 /// Recipes on a disk, each in a slot of a file. One slot stays free, in which the successor of a recipe is written

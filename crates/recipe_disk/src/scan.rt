@@ -3,7 +3,7 @@
 
 ghost use Rattle.std.specs.Prelude.{◌≡◌, ◌+◌, ◌<◌, ◌≤◌, if◌then◌else◌};
 ghost use Rattle.std.specs.FinMap.{len};
-ghost use Rattle.spool_slots.specs.Area.{first_at};
+ghost use Rattle.spool_file.specs.Area.{first_at};
 ghost use Rattle.recipe_disk.specs.File.{area_break, fields_at, number_at, recipes_break, slots_in};
 ghost use Rattle.recipe_disk.specs.Hints.{AreHints, KnowsSlots, hint_in};
 ghost use Rattle.recipe_disk.specs.Map.{is_new_name, recipes_below};

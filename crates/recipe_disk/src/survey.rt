@@ -1,7 +1,7 @@
 //! All that a call of the keeper asks of the slots: that of a name, and what the hints of all tell.
 
 ghost use Rattle.std.specs.Prelude.{◌≡◌, ◌+◌, ◌-◌, ◌^◌, ◌<◌, ◌≤◌, ℕ, List, None, Some, IfSome, max, min, not, if◌then◌else◌};
-ghost use Rattle.spool_slots.specs.Area.{or_else};
+ghost use Rattle.spool_file.specs.Area.{or_else};
 ghost use Rattle.recipe_disk.specs.Changes.{IsKept};
 ghost use Rattle.recipe_disk.specs.Hints.{AreHints, IsBelow, KnowsSlots};
 ghost use Rattle.recipe_disk.specs.Reading.{HasLooked, SaysOf, look_answer};

@@ -18,11 +18,11 @@ use Rattle.spool_show.specs.Showing.{AreLines, HasShown, IsCounted, PutsLine, Pu
 use Rattle.spool_show.specs.declared.spool_end.SpoolEnd.{SpoolEnd}
 use Rattle.spool_show.specs.declared.spool_end.SpoolEnd.TheVariants as end
 use Rattle.spool_show.specs.Text.{line_of, message_line, message_lines}
+use Rattle.spool_file.specs.File.{file_in}
+use Rattle.spool_file.specs.Slot.{message_of, slot_in, slot_place}
+use Rattle.spool_file.specs.declared.slot.SlotHead.{SlotHead}
 use Rattle.spool_slots.specs.Changes.{IsFound}
-use Rattle.spool_slots.specs.File.{file_in}
-use Rattle.spool_slots.specs.Slot.{message_of, slot_in, slot_place}
 use Rattle.spool_slots.specs.Spool.{SpoolView, in_hand, known_of}
-use Rattle.spool_slots.specs.declared.slot.SlotHead.{SlotHead}
 
 -- the area of a slot's body is what stands behind its first fifteen bytes
 area_behind : (bytes : List ℕ) (p : ℕ) → drop 15 (bytes_at bytes p 4096) ≡ bytes_at bytes (p + 15) 4081

@@ -12,9 +12,9 @@ use Rattle.spool_show.specs.Showing.{AreLines, IsFront, IsWhole, PutsLines, Show
 use Rattle.spool_show.specs.Text.{head_line, message_line, message_lines}
 use Rattle.spool_show.specs.declared.spool_end.SpoolEnd.{SpoolEnd}
 use Rattle.spool_show.specs.declared.spool_end.SpoolEnd.TheVariants as end
-use Rattle.spool_slots.specs.File.{file_in}
+use Rattle.spool_file.specs.File.{file_in}
+use Rattle.spool_file.specs.declared.recovery.Known.{Known}
 use Rattle.spool_slots.specs.Spool.{Rests}
-use Rattle.spool_slots.specs.declared.recovery.Known.{Known}
 
 -- the head that was put into an empty page
 pub head_put : {slots mark len slots' mark' len' : ℕ} (items empty : List ℕ) → items ≡ empty ++ head_line slots mark len

@@ -18,15 +18,15 @@ use Rattle.spool_show.specs.Text.{file_text}
 use Rattle.spool_show.specs.Told.{DiskTold}
 use Rattle.spool_show.specs.declared.spool_end.SpoolEnd.{SpoolEnd}
 use Rattle.spool_show.specs.declared.spool_end.SpoolEnd.TheVariants as end
-use Rattle.spool_slots.specs.Added.{OnlyAdds, WritesOrSyncs}
+use Rattle.spool_file.specs.Added.{OnlyAdds, WritesOrSyncs}
+use Rattle.spool_file.specs.File.{file_in}
+use Rattle.spool_file.specs.Slot.{slot_place}
+use Rattle.spool_file.specs.declared.recovery.Known.{Known}
+use Rattle.spool_file.proofs.Added.{adds_as, adds_behind, adds_done, adds_failed}
 use Rattle.spool_slots.specs.Changes.{HasRecovered, Recovers, most_reads}
-use Rattle.spool_slots.specs.File.{file_in}
-use Rattle.spool_slots.specs.Slot.{slot_place}
 use Rattle.spool_slots.specs.Spool.{Rests, SpoolView, known_of}
-use Rattle.spool_slots.specs.declared.recovery.Known.{Known}
 use Rattle.spool_slots.specs.declared.states.Recovering.{Recovering}
 use Rattle.spool_slots.specs.declared.states.Recovering.TheVariants as recovering
-use Rattle.spool_slots.proofs.Added.{adds_as, adds_behind, adds_done, adds_failed}
 
 -- what a disk told, by its parts
 abbrev disk_parts : Option (List ℕ) → Option (List ℕ) → Option (List DiskCall) → Option (List DiskCall) → Option Story →

@@ -14,9 +14,9 @@ use Rattle.spool_show.specs.Text.{formatted_line}
 use Rattle.spool_show.specs.Told.{DiskTold}
 use Rattle.spool_show.specs.declared.spool_end.SpoolEnd.{SpoolEnd}
 use Rattle.spool_show.specs.declared.spool_end.SpoolEnd.TheVariants.{Done, DiskFailed, WriteFailed}
-use Rattle.spool_slots.specs.Added.{OnlyAdds, WritesOrSyncs}
-use Rattle.spool_slots.specs.Format.{StandsEmpty}
-use Rattle.spool_slots.specs.Slot.{slot_place}
+use Rattle.spool_file.specs.Added.{OnlyAdds, WritesOrSyncs}
+use Rattle.spool_file.specs.Format.{StandsEmpty}
+use Rattle.spool_file.specs.Slot.{slot_place}
 use Rattle.spool_slots.specs.declared.states.Formatting.{Formatting}
 use Rattle.spool_slots.specs.declared.states.Formatting.TheVariants as formatting
 

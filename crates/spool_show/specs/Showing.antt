@@ -11,10 +11,10 @@ use Rattle.spool_show.specs.Text.{file_text, message_lines}
 use Rattle.spool_show.specs.Told.{DiskTold}
 use Rattle.spool_show.specs.declared.spool_end.SpoolEnd.{SpoolEnd}
 use Rattle.spool_show.specs.declared.spool_end.SpoolEnd.TheVariants.{Done, NotSpool, DiskFailed, WriteFailed}
-use Rattle.spool_slots.specs.File.{file_in, spool_break}
-use Rattle.spool_slots.specs.Reading.{IsBreak}
+use Rattle.spool_file.specs.File.{file_in, spool_break}
+use Rattle.spool_file.specs.Reading.{IsBreak}
+use Rattle.spool_file.specs.declared.reading.NotSpool.{NotSpool as Place}
 use Rattle.spool_slots.specs.Spool.{SpoolView, in_hand, known_of}
-use Rattle.spool_slots.specs.declared.reading.NotSpool.{NotSpool as Place}
 use Rattle.spool_slots.specs.declared.states.Recovering.{Recovering}
 use Rattle.spool_slots.specs.declared.states.Recovering.TheVariants as recovering
 

@@ -2,9 +2,9 @@
 use Rattle.std.specs.Prelude.{ℕ, true, List, ◌++◌, length, codes, decimal}
 use Rattle.std.specs.List.{flat_map}
 use Rattle.short_text.specs.Name.{name_of}
-use Rattle.spool_slots.specs.File.{SpoolFile}
-use Rattle.spool_slots.specs.Slot.{Message, slot_place}
-use Rattle.spool_slots.specs.declared.slot.SlotHead.{SlotHead}
+use Rattle.spool_file.specs.File.{SpoolFile}
+use Rattle.spool_file.specs.Slot.{Message, slot_place}
+use Rattle.spool_file.specs.declared.slot.SlotHead.{SlotHead}
 use Rattle.trace_log.specs.Text.{body_text}
 
 -- a word, and a number behind it

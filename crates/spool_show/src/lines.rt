@@ -7,7 +7,7 @@ ghost use Rattle.trace_log.specs.Text.{body_text};
 
 use arrayvec::ArrayVec;
 use short_text::{put, put_hex, put_name, put_number};
-use spool_slots::{SLOT_SIZE, SlotHead, slot_place};
+use spool_file::{SLOT_SIZE, SlotHead, slot_place};
 
 /// How long a line is at most.
 pub const LINE: usize = 8300;

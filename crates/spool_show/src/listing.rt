@@ -11,7 +11,8 @@ use crate::lines::{LINE, put_head_line, put_message_line};
 use crate::spool_end::SpoolEnd;
 use disk_base::{Disk, DiskAnswer};
 use gl_base::{Page, Sink, SinkAnswer};
-use spool_slots::{OldestAnswer, Raw, Recovering, SLOT_SIZE, SlotHead, Spool};
+use spool_file::{SLOT_SIZE, SlotHead};
+use spool_slots::{OldestAnswer, Raw, Recovering, Spool};
 
 /// Writes how many slots the spool file of this name has, its mark, and its list, a line a message, oldest first. The
 /// disk takes the file as it is and keeps its list and mark. Where the disk or the output fails, a part of the lines

@@ -7,15 +7,16 @@ ghost use Rattle.gl_base.specs.Told.{sink_told};
 ghost use Rattle.spool_show.specs.Formatting.{FormatsSpool, MakesSpool, WritesFormatted};
 ghost use Rattle.spool_show.specs.Formatting.{answer_by, unformatted_disk};
 ghost use Rattle.spool_show.specs.Told.{disk_told};
-ghost use Rattle.spool_slots.specs.Added.{OnlyAdds, WritesOrSyncs};
-ghost use Rattle.spool_slots.specs.Format.{StandsEmpty};
-ghost use Rattle.spool_slots.specs.Slot.{slot_place};
+ghost use Rattle.spool_file.specs.Added.{OnlyAdds, WritesOrSyncs};
+ghost use Rattle.spool_file.specs.Format.{StandsEmpty};
+ghost use Rattle.spool_file.specs.Slot.{slot_place};
 
 use crate::lines::formatted_line;
 use crate::spool_end::SpoolEnd;
 use disk_base::{Disk, DiskAnswer};
 use gl_base::{Sink, SinkAnswer, copy_out};
-use spool_slots::{Formatting, Raw, slot_place};
+use spool_file::slot_place;
+use spool_slots::{Formatting, Raw};
 
 /// Makes the file of this name the spool file of an empty list in so many slots, with mark 0, and writes how many slots
 /// and bytes that takes. The disk takes the file, and is asked for these bytes and no more. It takes no memory.

@@ -1,6 +1,6 @@
 //! How a listing and a making end.
 
-use spool_slots::NotSpool;
+use spool_file::NotSpool;
 
 /// How a word about a spool file ended.
 #[derive(Clone, Copy, Debug, PartialEq, Eq)]

@@ -1,5 +1,5 @@
 -- What a crash leaves where a planned call has stopped the disk in one of many works.
-use Rattle.std.proofs.Common.{◌≡◌, subst, arith, zero, suc, ◌+◌, ◌<◌, ℕ, List, [], ◌∷◌, ◌++◌, length, length-append}
+use Rattle.std.proofs.Common.{◌≡◌, subst, arith, zero, suc, ◌+◌, ◌<◌, true, ℕ, List, [], ◌∷◌, ◌++◌, length, length-append}
 use Rattle.std.proofs.Common.{Some, Err}
 use Rattle.disk_base.specs.Cut.{image_of}
 use Rattle.disk_base.specs.Story.{Story}
@@ -11,14 +11,13 @@ use Rattle.gem_spool.specs.Standing.{Standing}
 use Rattle.gem_spool.specs.Works.{Does, DoesAll, standing_after, standings_after}
 use Rattle.gem_spool.specs.declared.works.Work.{Work}
 use Rattle.gem_spool.specs.declared.works.Work.TheVariants as work
-use Rattle.spool_slots.specs.File.{StandsFor}
+use Rattle.spool_file.specs.File.{StandsFor}
 use Rattle.spool_slots.specs.declared.states.Spent.{Spent}
 use Rattle.message_end.specs.Ends.{call_of}
-use Rattle.spool_works.specs.Breaking.{HasLeftAt, HasRoomLeft, LeavesImages}
+use Rattle.spool_works.specs.Breaking.{HasLeftAt, LeavesImages}
 use Rattle.spool_works.proofs.BrokenPasses.{IsOver, work-passes}
 use Rattle.spool_works.proofs.BrokenWorks.{drop-left, purge-left}
 use Rattle.spool_works.proofs.BrokenPuts.{put-left}
-use Rattle.spool_works.proofs.RoomKept.{room-kept}
 use Rattle.spool_works.proofs.LossCounts.{calls-count}
 use Rattle.spool_works.specs.DiskWorks.DiskWork.{Change}
 use Rattle.spool_works.specs.WorkLosses.{calls_at}
@@ -29,21 +28,18 @@ works_left st [] = []
 works_left st (one ∷ works) = calls_at st (Change one) ++ works_left (standing_after st one) works
 
 module _ {D : Type 0} (members : disk.Ghosts D) (spent : Spent D) (t : Story) (new : members.told spent.disk ≡ Some t)
-    (images : LeavesImages t) (free : HasRoomLeft (members.health spent.disk)) where
+    (images : LeavesImages t) (stopped : (members.health spent.disk).stopped ≡ true) where
   -- at the first work
   pub work-breaks :
       (g : GemSpool D) (one : Work) (st : Standing) (s : Story) → IsOver members g.spool st s
       → Does members g one (Err spent) → HasLeftAt (calls_at st (Change one)) (members.health g.spool.disk).stop_in t
   work-breaks g (work.Put stream function body) st s is does =
-      put-left members g.spool st spent s t is.stands is.told new images is.goes
-      (room-kept (members.health g.spool.disk) (members.health spent.disk) _ _ does.0.makes.cause free) stream function
-      body does.0 does.1
+      put-left members g.spool st spent s t is.stands is.told new images is.goes stopped stream function body does.0
+      does.1
   work-breaks g work.DropOldest st s is does =
-      drop-left members g.spool st spent s t is.stands is.told new images is.goes
-      (room-kept (members.health g.spool.disk) (members.health spent.disk) 2 _ does.0.disk.cause free) does
+      drop-left members g.spool st spent s t is.stands is.told new images is.goes stopped does
   work-breaks g work.Purge st s is does =
-      purge-left members g.spool st spent s t is.stands is.told new images is.goes
-      (room-kept (members.health g.spool.disk) (members.health spent.disk) 5 _ does.1.0.cause free) does
+      purge-left members g.spool st spent s t is.stands is.told new images is.goes stopped does
 
   -- or behind some that were done, at one of its own calls
   pub record HasPlace (xs : List Work) (one : Work) (st : Standing) (stop : ℕ) : Type 0 where

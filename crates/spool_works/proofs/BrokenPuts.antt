@@ -9,7 +9,7 @@ use Rattle.disk_base.specs.Story.{Story}
 use Rattle.disk_base.specs.declared.cut.CutChoice.{CutChoice}
 use Rattle.disk_base.specs.declared.disk.Disk as disk
 use Rattle.disk_base.specs.declared.disk.DiskAnswer.TheVariants.{Failed}
-use Rattle.disk_base.proofs.Stretches.{lists_on, planned_before}
+use Rattle.disk_base.proofs.Stretches.{lists_on}
 use Rattle.gem_spool.specs.Spool.{HasPut, StagesAndSeals, numbered, put_in, room_for}
 use Rattle.gem_spool.specs.Standing.{Standing, Stands}
 use Rattle.gem_spool.specs.Updates.{Left, behind_gate, by_gate, closing, gate_losses, stays}
@@ -21,17 +21,17 @@ use Rattle.gem_spool.specs.declared.spool.Room.TheVariants.{Fits}
 use Rattle.gem_spool.proofs.Amid.{not_stale}
 use Rattle.gem_spool.proofs.Doing.{next_is, put_file, same_file}
 use Rattle.gem_spool.proofs.Putting.{sealed_is}
+use Rattle.spool_file.specs.File.{SpoolFile, StandsFor, file_in, is_open_at}
+use Rattle.spool_file.specs.Logs.{written_by}
+use Rattle.spool_file.specs.Slot.{slot_place}
 use Rattle.spool_slots.specs.Changes.{HasLostStage, HoldsThrough, IsSame, Seals, Stages, parts_of, sealed_in}
 use Rattle.spool_slots.specs.Changes.{shut_calls, shut_in, stage_calls, with_shut}
-use Rattle.spool_slots.specs.File.{SpoolFile, StandsFor, file_in, is_open_at}
-use Rattle.spool_slots.specs.Logs.{written_by}
 use Rattle.spool_slots.specs.Losses.{IsSure, Leaves, closes, file_left, gate_counts, opens}
-use Rattle.spool_slots.specs.Slot.{slot_place}
 use Rattle.spool_slots.specs.Spool.{SpoolView, next_slot}
 use Rattle.spool_slots.specs.declared.states.Spent.{Spent}
-use Rattle.spool_slots.specs.declared.states.Staging.TheVariants as staging
 use Rattle.message_end.specs.Ends.{call_of}
-use Rattle.spool_works.specs.Breaking.{HasLeftAt, HasRoomLeft, IsGoingDisk, LeavesImages}
+use Rattle.spool_slots.proofs.Lost.{sure_stopped}
+use Rattle.spool_works.specs.Breaking.{HasLeftAt, IsGoingDisk, LeavesImages}
 use Rattle.spool_works.specs.DiskWorks.DiskWork.{Change}
 use Rattle.spool_works.specs.WorkLosses.{calls_at}
 use Rattle.spool_works.proofs.BrokenWorks.{by-cause, either-among, left-same, one-of-two, only-one, planned-stop, sure}
@@ -100,7 +100,7 @@ looked-file st false is = not_stale st is
 module _ {D : Type 0} (members : disk.Ghosts D) (v : SpoolView D) (st : Standing) (spent : Spent D) (s t : Story)
     (is : Stands members v st) (old : members.told v.disk ≡ Some s) (new : members.told spent.disk ≡ Some t)
     (images : LeavesImages t) (goes : IsGoingDisk (members.health v.disk))
-    (free : HasRoomLeft (members.health v.disk)) (stream function : ℕ) (body : List ℕ) (short : length body ≤ 4081)
+    (stopped : (members.health spent.disk).stopped ≡ true) (stream function : ℕ) (body : List ℕ) (short : length body ≤ 4081)
   where
     abbrev health : DiskHealth
     health = members.health v.disk
@@ -129,10 +129,10 @@ module _ {D : Type 0} (members : disk.Ghosts D) (v : SpoolView D) (st : Standing
         ∙ ap (λ (n : ℕ). with_shut n st.file) (next_is members v st is)
 
     planned : (calls : ℕ) → IsPlanned health calls → IsAmong health.stop_in calls
-    planned calls = planned-stop members v st spent s t is old new images goes free calls
+    planned calls = planned-stop members v st spent s t is old new images goes stopped calls
 
-    fits : (calls n : ℕ) → calls ≤ 7 → n ≤ 4097 → IsSure health calls n
-    fits calls n few less = sure members v st spent s t is old new images goes free calls n few less
+    fits : (calls n : ℕ) → IsSure health (members.health spent.disk) calls n
+    fits = sure members v st spent s t is old new images goes stopped
 
     abbrev At : Bool → Type 0
     At stale = HasLeftAt (put_losses stale done st) health.stop_in t
@@ -144,7 +144,7 @@ module _ {D : Type 0} (members : disk.Ghosts D) (v : SpoolView D) (st : Standing
       is =
           subst (λ (calls : List Left). call_of health.stop_in calls ≡ Some (stays st)) (sym all)
           (call-before (stays st ∷ []) rest health.stop_in (stays st) (only-one health.stop_in (stays st) early));
-      at = left-same members v st spent s t is old new images goes free holds;
+      at = left-same members v st spent s t is old new images goes stopped holds;
     }
 
     -- what is left where the gate is shut by then
@@ -168,8 +168,7 @@ module _ {D : Type 0} (members : disk.Ghosts D) (v : SpoolView D) (st : Standing
       where
         among : IsAmong health.stop_in 5
         among =
-            by-cause members v st spent s t is old new images goes free 5 (written_by (staged_calls true))
-            (members.health spent.disk) (omega arith) (omega (arith, long, short)) fault
+            by-cause members v st spent s t is old new images goes stopped 5 _ fault
 
         some : 0 < health.stop_in
         some = among.0
@@ -196,7 +195,7 @@ module _ {D : Type 0} (members : disk.Ghosts D) (v : SpoolView D) (st : Standing
               (subst (λ (f : SpoolFile).
               StandsFor (image_of choice t) (file_left (gate_counts choice closes) (shut_in v.next s.now.bytes) f))
               (sym (same_file members v st is s old))
-              (lost.shutting (fits 3 1 (omega arith) (omega arith)) (λ is. late (planned 1 is)) (inr (inl closing)) s t
+              (lost.shutting (fits 3 1) (λ is. late (planned 1 is)) (inr (inl closing)) s t
               old new choice));
         }
         go (inr late) (inr closed) = record {
@@ -206,15 +205,14 @@ module _ {D : Type 0} (members : disk.Ghosts D) (v : SpoolView D) (st : Standing
               pair-at (looks true st) _ (health.stop_in - 3) health.stop_in (stays (unstale st)) (omega (arith, past))
               (omega (arith, past), omega (arith, most));
           at = left-shut true so
-              (lost.late (fits 5 (written_by (staged_calls true)) (omega arith) (omega (arith, long, short)))
+              (lost.late (fits 5 (written_by (staged_calls true)))
               (λ is. closed (planned 3 is)));
         }
     stage-at false so lost fault = go (either-among health.stop_in 1)
       where
         among : IsAmong health.stop_in 3
         among =
-            by-cause members v st spent s t is old new images goes free 3 (written_by (staged_calls false))
-            (members.health spent.disk) (omega arith) (omega (arith, long, short)) fault
+            by-cause members v st spent s t is old new images goes stopped 3 _ fault
 
         some : 0 < health.stop_in
         some = among.0
@@ -231,7 +229,7 @@ module _ {D : Type 0} (members : disk.Ghosts D) (v : SpoolView D) (st : Standing
               pair-at (stays st ∷ []) _ (health.stop_in - 1) health.stop_in (stays st) (omega (arith, past))
               (omega (arith, past), omega (arith, most));
           at = left-shut false so
-              (lost.late (fits 3 (written_by (staged_calls false)) (omega arith) (omega (arith, long, short)))
+              (lost.late (fits 3 (written_by (staged_calls false)))
               (λ is. late (planned 1 is)));
         }
 
@@ -266,45 +264,25 @@ module _ {D : Type 0} (members : disk.Ghosts D) (v : SpoolView D) (st : Standing
               × (sealed_in (next_slot u) mid.0.now.bytes ≡ put_in (numbered v stream function body) s.now.bytes)
           eqs = sealed_is members v stream function body room u staged s mid.0 old mid.1
 
-          few : (b : Bool) → length (staged_calls b) ≤ 5
-          few true = omega arith
-          few false = omega arith
-
-          less : (b : Bool) → written_by (staged_calls b) ≤ 4096
-          less true = omega (arith, long, short)
-          less false = omega (arith, long, short)
-
-          calls-left : 2 ≤ (members.health u.disk).calls
-          calls-left =
-              let left = used.calls_left in
-              let all = free.calls in
-              let most = few stale in
-              omega (arith, left, all, most)
-
-          room-left : 1 ≤ (members.health u.disk).room
-          room-left =
-              let left = used.room_left in
-              let all = free.bytes in
-              let most = less stale in
-              omega (arith, left, all, most)
-
-          rest : IsSure (members.health u.disk) 2 1
-          rest = record {
-            going = lists_on health (members.health u.disk) _ _ used goes.going;
-            calls_fit = calls-left;
-            bytes_fit = room-left;
-          }
+          rest : IsSure (members.health u.disk) (members.health spent.disk) 2 1
+          rest =
+              sure_stopped (members.health u.disk) (members.health spent.disk)
+              (lists_on health (members.health u.disk) _ _ used goes.going) stopped 2 1
 
           among : IsAmong health.stop_in (length (staged_calls stale) + 2)
-          among =
-              planned (length (staged_calls stale) + 2)
-              (planned_before health (members.health u.disk) _ _ used 2 (length (staged_calls stale) + 2) (omega arith)
-              (by-gate (seals.0.disk.cause.lacking calls-left)))
+          among = at (seals.0.disk.cause.stops stopped)
             where
-              by-gate : IsPlanned (members.health u.disk) 2 ⊎ ((members.health u.disk).room < 1)
-                  → IsPlanned (members.health u.disk) 2
-              by-gate (inl is) = is
-              by-gate (inr none) = absurd (omega (arith, none, room-left))
+              on : (members.health u.disk).stopped ≡ true → health.stopped ≡ false → ⊥
+              on now before = let going = used.going in cc
+
+              at : ((members.health u.disk).stopped ≡ true)
+                  ⊎ ((members.health u.disk).stop_in ≡ seals.0.disk.cause.made + 1)
+                  → IsAmong health.stop_in (length (staged_calls stale) + 2)
+              at (inl now) = absurd (on now goes.going.on)
+              at (inr here) =
+                  let left = used.stop_left in
+                  let few = seals.0.disk.cause.few in
+                  (omega (arith, here, left), omega (arith, here, left, few))
 
           past : length (staged_calls stale) < health.stop_in
           past = behind health.stop_in (length (staged_calls stale)) among.0 (λ is. used.unplanned (inr (inl is)))
@@ -332,7 +310,7 @@ module _ {D : Type 0} (members : disk.Ghosts D) (v : SpoolView D) (st : Standing
 module _ {D : Type 0} (members : disk.Ghosts D) (v : SpoolView D) (st : Standing) (spent : Spent D) (s t : Story)
     (is : Stands members v st) (old : members.told v.disk ≡ Some s) (new : members.told spent.disk ≡ Some t)
     (images : LeavesImages t) (goes : IsGoingDisk (members.health v.disk))
-    (free : HasRoomLeft (members.health v.disk)) where
+    (stopped : (members.health spent.disk).stopped ≡ true) where
   pub put-left :
       (stream function : ℕ) (body : List ℕ) → HasPut members v stream function body spent.disk Failed
       → StagesAndSeals members v stream function body (Err spent)
@@ -351,14 +329,14 @@ module _ {D : Type 0} (members : disk.Ghosts D) (v : SpoolView D) (st : Standing
           grind (arith, nat_tests, fits)
 
       same : is_open_at v.next (file_in s.now.bytes) ≡ is_stale st
-      same = stale-is members v st spent s t is old new images goes free stream function body short
+      same = stale-is members v st spent s t is old new images goes stopped stream function body short
 
       go : StagesAndSeals members v stream function body (Err spent)
           → HasLeftAt
           (put_losses (is_stale st) (standing_after st (work.Put stream function body)) st)
           (members.health v.disk).stop_in t
       go (inl failed) =
-          stage-at members v st spent s t is old new images goes free stream function body short (is_stale st) refl
+          stage-at members v st spent s t is old new images goes stopped stream function body short (is_stale st) refl
           (subst (λ (b : Bool).
           HasLostStage members v spent.disk (length (shut_calls b (slot_place (next_slot v))))
           (length (stage_calls b (slot_place (next_slot v)) (parts_of v.next stream function body)))
@@ -371,7 +349,7 @@ module _ {D : Type 0} (members : disk.Ghosts D) (v : SpoolView D) (st : Standing
           < written_by (stage_calls b (slot_place (next_slot v)) (parts_of v.next stream function body))))
           (failed.0.stale_is s old ∙ same) failed.0.calls.cause)
       go (inr (u, staged, seals)) =
-          seal-at members v st spent s t is old new images goes free stream function body short u staged seals put.fits
+          seal-at members v st spent s t is old new images goes stopped stream function body short u staged seals put.fits
           (is_stale st) refl
           (subst (λ (b : Bool).
           IsUsed (members.health v.disk) (members.health u.disk)

@@ -17,18 +17,19 @@ use Rattle.gem_spool.specs.Works.{floor_above, reserved, standing_after}
 use Rattle.gem_spool.specs.declared.works.Work.TheVariants as work
 use Rattle.gem_spool.proofs.Amid.{purge_one}
 use Rattle.gem_spool.proofs.Doing.{len_is, next_is, same_file}
+use Rattle.spool_file.specs.File.{SpoolFile, StandsFor, file_in}
+use Rattle.spool_file.specs.Front.{floor_cell, mark_cell}
+use Rattle.spool_file.specs.Slot.{Message}
 use Rattle.spool_slots.specs.Changes.{Clears, Drops, HasLooked, HoldsThrough, IsSame, Moves, Reserves, cleared_in}
 use Rattle.spool_slots.specs.Changes.{reserved_in, with_floor_moved, with_mark_moved, without_first}
-use Rattle.spool_slots.specs.File.{SpoolFile, StandsFor, file_in}
-use Rattle.spool_slots.specs.Front.{floor_cell, mark_cell}
 use Rattle.spool_slots.specs.Losses.{IsSure, closes, file_left, gate_counts, names_spare}
-use Rattle.spool_slots.specs.Slot.{Message}
 use Rattle.spool_slots.specs.Spool.{SpoolView}
 use Rattle.spool_slots.specs.declared.states.Dropping.TheVariants as dropping
 use Rattle.spool_slots.specs.declared.states.Reserving.TheVariants as reserving
 use Rattle.spool_slots.specs.declared.states.Spent.{Spent}
 use Rattle.message_end.specs.Ends.{call_of}
-use Rattle.spool_works.specs.Breaking.{HasLeftAt, HasRoomLeft, IsGoingDisk, LeavesImages}
+use Rattle.spool_slots.proofs.Lost.{sure_stopped}
+use Rattle.spool_works.specs.Breaking.{HasLeftAt, IsGoingDisk, LeavesImages}
 use Rattle.spool_works.specs.DiskWorks.DiskWork.{Change, ReadOldest, Reserve}
 use Rattle.spool_works.specs.WorkLosses.{calls_at}
 
@@ -79,39 +80,35 @@ story-inj a b same = cc
 module _ {D : Type 0} (members : disk.Ghosts D) (v : SpoolView D) (st : Standing) (spent : Spent D) (s t : Story)
     (is : Stands members v st) (old : members.told v.disk ≡ Some s) (new : members.told spent.disk ≡ Some t)
     (images : LeavesImages t) (goes : IsGoingDisk (members.health v.disk))
-    (free : HasRoomLeft (members.health v.disk)) where
+    (stopped : (members.health spent.disk).stopped ≡ true) where
   abbrev pub health : DiskHealth
   health = members.health v.disk
 
   pub file-is : st.file ≡ file_in s.now.bytes
   file-is = same_file members v st is s old
 
+  not-both : health.stopped ≡ true → health.stopped ≡ false → ⊥
+  not-both one two = cc
+
   -- only the planned call fails
   pub planned-stop : (calls : ℕ) → IsPlanned health calls → IsAmong health.stop_in calls
   planned-stop calls (inl fails) =
       absurd (let some = fails.0 in let none = goes.fails_not in omega (arith, some, none))
   planned-stop calls (inr (inl stops)) = stops
-  planned-stop calls (inr (inr stopped)) = absurd (both goes.going.on stopped.0)
-    where
-      both : health.stopped ≡ false → health.stopped ≡ true → ⊥
-      both one two = cc
+  planned-stop calls (inr (inr stops)) = absurd (not-both stops.0 goes.going.on)
 
+  -- and the fault came there
   pub by-cause :
-      (calls n : ℕ) (after : DiskHealth) → calls ≤ 7 → n ≤ 4097 → DiskFault health after calls (health.room < n)
+      (calls : ℕ) (Lacking : Type 0) → DiskFault health (members.health spent.disk) calls Lacking
       → IsAmong health.stop_in calls
-  by-cause calls n after few short fault =
-      go (fault.lacking (let fits = free.calls in omega (arith, few, fits)))
+  by-cause calls Lacking fault = go (fault.stops stopped)
     where
-      go : IsPlanned health calls ⊎ (health.room < n) → IsAmong health.stop_in calls
-      go (inl planned) = planned-stop calls planned
-      go (inr lacks) = absurd (let fits = free.bytes in omega (arith, lacks, short, fits))
+      go : (health.stopped ≡ true) ⊎ (health.stop_in ≡ fault.made + 1) → IsAmong health.stop_in calls
+      go (inl before) = absurd (not-both before goes.going.on)
+      go (inr at) = let few = fault.few in (omega (arith, at), omega (arith, at, few))
 
-  pub sure : (calls n : ℕ) → calls ≤ 7 → n ≤ 4097 → IsSure health calls n
-  sure calls n few short = record {
-    going = goes.going;
-    calls_fit = let fits = free.calls in omega (arith, few, fits);
-    bytes_fit = let fits = free.bytes in omega (arith, short, fits);
-  }
+  pub sure : (calls n : ℕ) → IsSure health (members.health spent.disk) calls n
+  sure = sure_stopped health (members.health spent.disk) goes.going stopped
 
   -- what every crash leaves
   pub each-left : (P : List ℕ → Type 0) → GoesThrough s (members.told spent.disk) P → (choice : CutChoice)
@@ -139,11 +136,11 @@ module _ {D : Type 0} (members : disk.Ghosts D) (v : SpoolView D) (st : Standing
     left = by_gate closes (standing_after st work.DropOldest) st;
     is =
         one-of-two health.stop_in (by_gate closes (standing_after st work.DropOldest) st)
-        (by-cause 2 1 (members.health spent.disk) (omega arith) (omega arith) drops.0.disk.cause);
+        (by-cause 2 _ drops.0.disk.cause);
     at = λ choice.
         subst (StandsFor (image_of choice t))
         (ap (λ (f : SpoolFile). file_left (gate_counts choice closes) (without_first f) f) (sym file-is))
-        (drops.1 (sure 2 1 (omega arith) (omega arith)) s t old new choice);
+        (drops.1 (sure 2 1) s t old new choice);
   }
 
   -- ---- a cell gets another value
@@ -158,7 +155,7 @@ module _ {D : Type 0} (members : disk.Ghosts D) (v : SpoolView D) (st : Standing
     cell-left behind file moves = go (either-among health.stop_in 3)
       where
         among : IsAmong health.stop_in 5
-        among = by-cause 5 9 (members.health spent.disk) (omega arith) (omega arith) moves.0.cause
+        among = by-cause 5 _ moves.0.cause
 
         gate : Left
         gate = by_gate (names_spare cell) behind st
@@ -182,7 +179,7 @@ module _ {D : Type 0} (members : disk.Ghosts D) (v : SpoolView D) (st : Standing
               (subst (λ (c : Cell). StandsFor (image_of choice t)
               (file_left (gate_counts choice (names_spare c)) (moved (file_in s.now.bytes)) (file_in s.now.bytes)))
               (sym there)
-              (moves.1.late (sure 5 9 (omega arith) (omega arith)) (λ planned. late (planned-stop 3 planned)) s t old
+              (moves.1.late (sure 5 9) (λ planned. late (planned-stop 3 planned)) s t old
               new choice)));
         }
 
@@ -222,7 +219,9 @@ module _ {D : Type 0} (members : disk.Ghosts D) (v : SpoolView D) (st : Standing
       → HasLeftAt (calls_at st ReadOldest) health.stop_in t
   read-left k w same looked = record {
     left = stays st;
-    is = only-one health.stop_in (stays st) (go (looked.cause.lacking (let fits = free.calls in omega (arith, fits))));
+    is =
+        only-one health.stop_in (stays st)
+        (by-cause 1 ⊥ (subst (λ (d : D). DiskFault health (members.health d) 1 ⊥) same looked.cause));
     at = λ choice.
         let image : image_of choice t ≡ s.now.bytes =
         subst (λ (u : Story). image_of choice t ≡ u.now.bytes) here
@@ -235,7 +234,3 @@ module _ {D : Type 0} (members : disk.Ghosts D) (v : SpoolView D) (st : Standing
       here =
           story-inj t s
           (sym new ∙ ap (λ (d : D). members.told d) (sym same) ∙ looked.told ∙ old)
-
-      go : IsPlanned health 1 ⊎ ⊥ → IsAmong health.stop_in 1
-      go (inl planned) = planned-stop 1 planned
-      go (inr none) = absurd none

@@ -5,12 +5,12 @@ use Rattle.std.proofs.Common.{Some, None}
 use Rattle.std.specs.Prelude.{Err}
 use Rattle.std.specs.List.{slice_get}
 use Rattle.disk_base.specs.Calls.{DiskCall, Logs, with_call}
-use Rattle.disk_base.specs.Faults.{DiskHealth, IsCrowded}
+use Rattle.disk_base.specs.Faults.{IsLeftOut}
 use Rattle.disk_base.specs.Story.{Story}
 use Rattle.disk_base.specs.declared.disk.Disk as disk
 use Rattle.disk_base.specs.declared.disk.DiskAnswer.{DiskAnswer}
 use Rattle.disk_base.specs.declared.disk.DiskAnswer.TheVariants.{Done, Failed}
-use Rattle.disk_base.proofs.Stretches.{fault_wider}
+use Rattle.disk_base.proofs.Stretches.{fault_wider, left_out_behind, used_behind, used_none}
 use Rattle.gate_cell.specs.Cell.{Cell}
 use Rattle.gem_spool.specs.declared.count.Count.{Count}
 use Rattle.gem_spool.specs.declared.spool.GemSpool.{GemSpool}
@@ -22,14 +22,15 @@ use Rattle.gem_spool.proofs.Amid.{does_amid}
 use Rattle.gem_spool.proofs.Called.{does_makes, fails_makes}
 use Rattle.gem_spool.proofs.Doing.{does_stands, same_file}
 use Rattle.gem_spool.proofs.Stays.{moved_is}
+use Rattle.spool_file.specs.File.{SpoolFile}
+use Rattle.spool_file.specs.Front.{mark_cell}
+use Rattle.spool_file.specs.Logs.{LogsAll, MakesAll, answered, written_by}
+use Rattle.spool_file.specs.Slot.{slot_place}
+use Rattle.spool_file.proofs.Making.{written_both}
 use Rattle.spool_slots.specs.Changes.{HasLooked, MovesMark, reserved_in}
-use Rattle.spool_slots.specs.File.{SpoolFile}
-use Rattle.spool_slots.specs.Front.{mark_cell}
-use Rattle.spool_slots.specs.Logs.{LogsAll, MakesAll, answered, written_by}
-use Rattle.spool_slots.specs.Slot.{slot_place}
 use Rattle.spool_slots.specs.Spool.{SpoolView, first_slot}
 use Rattle.spool_slots.specs.declared.states.Spent.{Spent as Device}
-use Rattle.spool_slots.proofs.Making.{makes_moved, written_both}
+use Rattle.spool_slots.proofs.Settling.{makes_moved}
 use Rattle.spool_works.specs.DiskCalls.{HasFailedIn, HasMade, all_disk_calls, disk_calls, failing, with_calls}
 use Rattle.spool_works.specs.DiskWorks.DiskWork.{Change, ReadOldest, Reserve}
 
@@ -44,54 +45,34 @@ pub with-both : (xs ys : List DiskCall) (told : Option (List DiskCall))
 with-both xs ys None = refl
 with-both xs ys (Some all) = ap (λ (calls : List DiskCall). Some calls) (append_assoc all xs ys)
 
-all-done : (calls : List DiskCall) (Crowded : Type 0) (before after : Option (List DiskCall))
-    → LogsAll calls Crowded before after Done → after ≡ with_calls calls before
-all-done [] Crowded before after is = is ∙ with-none before
-all-done (call ∷ calls) Crowded before after is =
-    all-done calls Crowded (with_call call before) after is ∙ with-both (call ∷ []) calls before
+all-done : (calls : List DiskCall) (LeftOut : ℕ → ℕ → Type 0) (before after : Option (List DiskCall))
+    → LogsAll calls LeftOut before after Done → after ≡ with_calls calls before
+all-done [] LeftOut before after is = is ∙ with-none before
+all-done (call ∷ calls) LeftOut before after is =
+    all-done calls LeftOut (with_call call before) after is ∙ with-both (call ∷ []) calls before
 
 -- ---- calls behind others
 
-crowded-wider : (h : DiskHealth) (calls bytes more_calls more_bytes : ℕ) → calls ≤ more_calls → bytes ≤ more_bytes
-    → IsCrowded h calls bytes → IsCrowded h more_calls more_bytes
-crowded-wider h calls bytes more_calls more_bytes few short (inl less) = inl (omega (arith, less, few))
-crowded-wider h calls bytes more_calls more_bytes few short (inr less) = inr (omega (arith, less, short))
-
--- one failed behind others, and is listed unless it was crowded out
+-- one failed behind others, and is listed unless it was left out
 abbrev IsListed : Option (List DiskCall) → Option (List DiskCall) → List DiskCall → DiskCall → Type 0 → Type 0
-IsListed before after first failed Crowded =
-    (after ≡ with_calls (first ++ failing failed ∷ []) before) ⊎ (Crowded × (after ≡ with_calls first before))
+IsListed before after first failed LeftOut =
+    (after ≡ with_calls (first ++ failing failed ∷ []) before) ⊎ (LeftOut × (after ≡ with_calls first before))
 
 module _ {D : Type 0} (members : disk.Ghosts D) where
   pub made-same : (old new : D) → new ≡ old → HasMade members old new []
   made-same old new same =
       subst (λ (d : D). HasMade members old d []) (sym same)
-      (record { listed = with-none (members.calls old); calls_left = omega arith; room_left = omega arith })
+      (record { listed = with-none (members.calls old); used = used_none (members.health old) })
 
   pub made-then :
       (a b c : D) (xs ys : List DiskCall) → HasMade members a b xs → HasMade members b c ys
       → HasMade members a c (xs ++ ys)
   made-then a b c xs ys one two = record {
     listed = two.listed ∙ ap (with_calls ys) one.listed ∙ with-both xs ys (members.calls a);
-    calls_left =
-        let long = length-append xs ys in
-        let first = one.calls_left in
-        let second = two.calls_left in
-        omega (arith, long, first, second);
-    room_left =
-        let long = written_both xs ys in
-        let first = one.room_left in
-        let second = two.room_left in
-        omega (arith, long, first, second);
+    used = used_behind (members.health a) (members.health b) (length xs) (written_by xs) one.used (members.health c)
+        (length ys) (written_by ys) (length (xs ++ ys)) (written_by (xs ++ ys)) (sym (length-append xs ys))
+        (sym (written_both xs ys)) two.used;
   }
-
-  crowded-behind : (a b : D) (xs ys : List DiskCall) → HasMade members a b xs
-      → IsCrowded (members.health b) (length ys) (written_by ys)
-      → IsCrowded (members.health a) (length (xs ++ ys)) (written_by (xs ++ ys))
-  crowded-behind a b xs ys one (inl less) =
-      let long = length-append xs ys in let first = one.calls_left in inl (omega (arith, long, first, less))
-  crowded-behind a b xs ys one (inr less) =
-      let long = written_both xs ys in let first = one.room_left in inr (omega (arith, long, first, less))
 
   pub failed-behind :
       (a b c : D) (xs ys : List DiskCall) → HasMade members a b xs → HasFailedIn members b c ys
@@ -109,14 +90,23 @@ module _ {D : Type 0} (members : disk.Ghosts D) where
       made calls is = is ∙ ap (with_calls calls) one.listed ∙ with-both xs calls (members.calls a)
 
       go : IsListed (members.calls b) (members.calls c) two.first two.failed
-          (IsCrowded (members.health b) (length ys) (written_by ys))
+          (IsLeftOut (members.health b) (members.health c) (length two.first)
+          (written_by two.first + length two.failed.bytes))
           → IsListed (members.calls a) (members.calls c) (xs ++ two.first) two.failed
-          (IsCrowded (members.health a) (length (xs ++ ys)) (written_by (xs ++ ys)))
+          (IsLeftOut (members.health a) (members.health c) (length (xs ++ two.first))
+          (written_by (xs ++ two.first) + length two.failed.bytes))
       go (inl is) =
           inl (made (two.first ++ failing two.failed ∷ []) is
           ∙ ap (λ (all : List DiskCall). with_calls all (members.calls a))
           (sym (append_assoc xs two.first (failing two.failed ∷ []))))
-      go (inr (crowded, is)) = inr (crowded-behind a b xs ys one crowded, made two.first is)
+      go (inr (out, is)) =
+          inr (
+            left_out_behind (members.health a) (members.health b) (length xs) (written_by xs) one.used (members.health c)
+                (length two.first) (written_by two.first + length two.failed.bytes) (length (xs ++ two.first))
+                (written_by (xs ++ two.first) + length two.failed.bytes) (sym (length-append xs two.first))
+                (let long = written_both xs two.first in omega (arith, long)) out,
+            made two.first is,
+          )
 
   pub failed-before :
       (a c : D) (xs ys : List DiskCall) → HasFailedIn members a c xs → HasFailedIn members a c (xs ++ ys)
@@ -125,21 +115,8 @@ module _ {D : Type 0} (members : disk.Ghosts D) where
     failed = is.failed;
     rest = is.rest ++ ys;
     are = ap (λ (all : List DiskCall). all ++ ys) is.are ∙ append_assoc is.first (is.failed ∷ is.rest) ys;
-    listed = go is.listed;
+    listed = is.listed;
   }
-    where
-      go : IsListed (members.calls a) (members.calls c) is.first is.failed
-          (IsCrowded (members.health a) (length xs) (written_by xs))
-          → IsListed (members.calls a) (members.calls c) is.first is.failed
-          (IsCrowded (members.health a) (length (xs ++ ys)) (written_by (xs ++ ys)))
-      go (inl listed) = inl listed
-      go (inr (crowded, listed)) =
-          inr (
-            crowded-wider (members.health a) (length xs) (written_by xs) (length (xs ++ ys)) (written_by (xs ++ ys))
-                (let long = length-append xs ys in omega (arith, long))
-                (let long = written_both xs ys in omega (arith, long)) crowded,
-            listed,
-          )
 
   -- ---- calls in a row
 
@@ -148,24 +125,25 @@ module _ {D : Type 0} (members : disk.Ghosts D) where
     Makes said =
         MakesAll (members.health old) (members.health new) (members.calls old) (members.calls new) calls said
 
-    abbrev Crowded : Type 0
-    Crowded = IsCrowded (members.health old) (length calls) (written_by calls)
+    abbrev LeftOut : ℕ → ℕ → Type 0
+    LeftOut = IsLeftOut (members.health old) (members.health new)
 
     -- all of them
     pub made-all : Makes Done → HasMade members old new calls
     made-all is = record {
-      listed = all-done calls Crowded (members.calls old) (members.calls new) is.logs;
-      calls_left = is.cause.calls_left;
-      room_left = is.cause.room_left;
+      listed = all-done calls LeftOut (members.calls old) (members.calls new) is.logs;
+      used = is.cause;
     }
 
     -- up to one that failed
     stops-in :
-        (first rest : List DiskCall) (mid : Option (List DiskCall)) → mid ≡ with_calls first (members.calls old)
-        → calls ≡ first ++ rest → LogsAll rest Crowded mid (members.calls new) Failed
-        → HasFailedIn members old new calls
-    stops-in first [] mid same are none = absurd none
-    stops-in first (call ∷ rest) mid same are (inl logs) = record {
+        (first rest : List DiskCall) (mid : Option (List DiskCall)) (C : ℕ → ℕ → Type 0)
+        → ((made n all both : ℕ) → all ≡ length first + made → both ≡ written_by first + n → C made n
+        → LeftOut all both)
+        → mid ≡ with_calls first (members.calls old) → calls ≡ first ++ rest
+        → LogsAll rest C mid (members.calls new) Failed → HasFailedIn members old new calls
+    stops-in first [] mid C more same are none = absurd none
+    stops-in first (call ∷ rest) mid C more same are (inl logs) = record {
       first = first;
       failed = call;
       rest = rest;
@@ -173,18 +151,28 @@ module _ {D : Type 0} (members : disk.Ghosts D) where
       listed = go logs;
     }
       where
-        go : Logs (answered call) Crowded mid (members.calls new) Failed
-            → IsListed (members.calls old) (members.calls new) first call Crowded
-        go (inl (crowded, stays)) = inr (crowded, stays ∙ same)
+        go : Logs (answered call) (C 0 (length call.bytes)) mid (members.calls new) Failed
+            → IsListed (members.calls old) (members.calls new) first call
+            (LeftOut (length first) (written_by first + length call.bytes))
+        go (inl (out, stays)) = inr (more 0 (length call.bytes) _ _ (omega arith) refl out, stays ∙ same)
         go (inr added) =
             inl (added ∙ ap (with_call (failing call)) same ∙ with-both first (failing call ∷ []) (members.calls old))
-    stops-in first (call ∷ rest) mid same are (inr logs) =
-        stops-in (first ++ call ∷ []) rest (with_call call mid)
+    stops-in first (call ∷ rest) mid C more same are (inr logs) =
+        stops-in (first ++ call ∷ []) rest (with_call call mid) (λ made n. C (1 + made) (length call.bytes + n))
+        (λ made n all both is_all is_both.
+        let long = length-append first (call ∷ []) in
+        let wrote = written_both first (call ∷ []) in
+        more (1 + made) (length call.bytes + n) all both (omega (arith, is_all, long)) (omega (arith, is_both, wrote)))
         (ap (with_call call) same ∙ with-both first (call ∷ []) (members.calls old))
         (are ∙ sym (append_assoc first (call ∷ []) rest)) logs
 
     pub failed-all : Makes Failed → HasFailedIn members old new calls
-    failed-all is = stops-in [] calls (members.calls old) (with-none (members.calls old)) refl is.logs
+    failed-all is =
+        stops-in [] calls (members.calls old) LeftOut
+        (λ made n all both is_all is_both out.
+        left_out_behind (members.health old) (members.health old) 0 0 (used_none (members.health old))
+        (members.health new) made n all both (omega (arith, is_all)) (omega (arith, is_both)) out)
+        (with-none (members.calls old)) refl is.logs
 
   -- ---- works
 

@@ -7,9 +7,9 @@ use Rattle.gem_spool.specs.Updates.{losses_in, stays}
 use Rattle.gem_spool.specs.Standing.{Standing}
 use Rattle.gem_spool.specs.Works.{is_stale, next_place, purge_updates, standing_after, unstale}
 use Rattle.gem_spool.specs.declared.works.Work.TheVariants as work
-use Rattle.spool_slots.specs.File.{SpoolFile}
+use Rattle.spool_file.specs.File.{SpoolFile}
+use Rattle.spool_file.specs.Slot.{Message}
 use Rattle.spool_slots.specs.Losses.{file_left, gate_counts}
-use Rattle.spool_slots.specs.Slot.{Message}
 use Rattle.spool_works.specs.DiskWorks.{DiskWork, updates_at, standing_behind}
 use Rattle.spool_works.specs.DiskWorks.DiskWork.{Change, ReadOldest, Reserve}
 use Rattle.spool_works.specs.WorkLosses.{calls_at}

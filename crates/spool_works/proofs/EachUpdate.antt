@@ -5,7 +5,7 @@ use Rattle.gem_spool.specs.Standing.{Standing}
 use Rattle.gem_spool.specs.Updates.{behind_updates}
 use Rattle.gem_spool.specs.Works.{floor_above, purge_updates, standing_after}
 use Rattle.gem_spool.specs.declared.works.Work.TheVariants as work
-use Rattle.spool_slots.specs.Slot.{Message}
+use Rattle.spool_file.specs.Slot.{Message}
 use Rattle.spool_works.specs.DiskWorks.{WorksAreUpdates}
 use Rattle.spool_works.specs.DiskWorks.DiskWork.{Change, ReadOldest, Reserve}
 

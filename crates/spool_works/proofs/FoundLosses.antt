@@ -7,8 +7,8 @@ use Rattle.gem_spool.specs.Standing.{Standing}
 use Rattle.gem_spool.specs.declared.works.Work.TheVariants as work
 use Rattle.message_end.specs.Own.{Has}
 use Rattle.spool_law.specs.Shelf.{IsFoundOf, leaves_by, leaving_of}
-use Rattle.spool_slots.specs.File.{SpoolFile}
-use Rattle.spool_slots.specs.Slot.{Message}
+use Rattle.spool_file.specs.File.{SpoolFile}
+use Rattle.spool_file.specs.Slot.{Message}
 use Rattle.trace_log.specs.Names.{Spooled}
 use Rattle.trace_log.specs.declared.names.Cause.{Cause}
 use Rattle.trace_log.specs.declared.names.Cause.TheVariants as cause

@@ -9,6 +9,5 @@ pub mod EachLoss
 mod EachUpdate
 pub mod FoundLosses
 pub mod LossCounts
-pub mod RoomKept
 pub mod WorkedCalls
 pub mod WritesFew

@@ -7,14 +7,15 @@ use Rattle.gem_spool.specs.Updates.{calls_in, closing, gate_calls, reads, syncs,
 use Rattle.gem_spool.specs.Standing.{Standing}
 use Rattle.gem_spool.specs.Works.{is_stale, next_place, purge_updates, unstale}
 use Rattle.gem_spool.specs.declared.works.Work.TheVariants as work
+use Rattle.spool_file.specs.Logs.{written_by}
+use Rattle.spool_file.specs.Slot.{Message}
 use Rattle.spool_slots.specs.Changes.{parts_of}
-use Rattle.spool_slots.specs.Logs.{written_by}
-use Rattle.spool_slots.specs.Slot.{Message}
 use Rattle.spool_works.specs.DiskCalls.{disk_calls}
 use Rattle.spool_works.specs.DiskWorks.{DiskWork}
 use Rattle.spool_works.specs.DiskWorks.DiskWork.{Change, ReadOldest, Reserve}
 use Rattle.spool_works.specs.WritesFew.{WriteFew, all_of}
-use Rattle.spool_slots.proofs.Making.{length_copy, written_both}
+use Rattle.spool_file.proofs.Making.{written_both}
+use Rattle.spool_slots.proofs.Settling.{length_copy}
 
 -- ---- fronts
 

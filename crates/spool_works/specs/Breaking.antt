@@ -1,12 +1,12 @@
 -- What a disk of a spool leaves where a planned call stops it (this profile).
-use Rattle.std.specs.Prelude.{◌≡◌, ◌≤◌, ◌-◌, ℕ, List, Some}
+use Rattle.std.specs.Prelude.{◌≡◌, ◌-◌, ℕ, List, Some}
 use Rattle.disk_base.specs.Cut.{image_of}
 use Rattle.disk_base.specs.Faults.{DiskHealth, GoesAsListed, IsAmong}
 use Rattle.disk_base.specs.Images.{IsImage}
 use Rattle.disk_base.specs.Story.{Story}
 use Rattle.disk_base.specs.declared.cut.CutChoice.{CutChoice}
 use Rattle.gem_spool.specs.Updates.{Left}
-use Rattle.spool_slots.specs.File.{StandsFor}
+use Rattle.spool_file.specs.File.{StandsFor}
 use Rattle.message_end.specs.Ends.{call_of}
 
 -- the disk goes on, each call comes to what its entry says, and none of them is to fail alone; one may be to stop it
@@ -29,8 +29,3 @@ pub record HasLeftAt (calls : List Left) (call : ℕ) (after : Story) : Type 0 w
 -- whatever is chosen, a crash leaves one of the images
 abbrev pub LeavesImages : Story → Type 0
 LeavesImages after = (choice : CutChoice) → IsImage after.now (image_of choice after)
-
--- what is kept free for the calls of a work is free still
-pub record HasRoomLeft (health : DiskHealth) : Type 0 where
-  pub calls : 7 ≤ health.calls
-  pub bytes : 4097 ≤ health.room

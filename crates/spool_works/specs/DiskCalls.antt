@@ -1,14 +1,14 @@
 -- Which calls of the disk the works of a step are, one by one, and which of them were made (this profile).
-use Rattle.std.specs.Prelude.{◌≡◌, ◌⊎◌, ◌+◌, ◌≤◌, List, [], ◌∷◌, ◌++◌, length, Option, Result, Ok, Err}
+use Rattle.std.specs.Prelude.{◌≡◌, ◌⊎◌, ◌+◌, List, [], ◌∷◌, ◌++◌, length, Option, Result, Ok, Err}
 use Rattle.std.specs.Option.{option_map}
 use Rattle.disk_base.specs.Calls.{DiskCall}
-use Rattle.disk_base.specs.Faults.{IsCrowded}
+use Rattle.disk_base.specs.Faults.{IsLeftOut, IsUsed}
 use Rattle.disk_base.specs.declared.disk.Disk as disk
 use Rattle.disk_base.specs.declared.disk.DiskAnswer.TheVariants.{Failed}
 use Rattle.gem_spool.specs.declared.spool.GemSpool.{GemSpool}
 use Rattle.gem_spool.specs.Updates.{calls_in}
 use Rattle.gem_spool.specs.Standing.{Standing}
-use Rattle.spool_slots.specs.Logs.{written_by}
+use Rattle.spool_file.specs.Logs.{written_by}
 use Rattle.spool_works.specs.declared.ended.Ended.{Ended}
 use Rattle.spool_works.specs.declared.ended.Ended.TheVariants as ended
 use Rattle.spool_works.specs.DiskWorks.{DiskWork, updates_at, standing_behind}
@@ -34,21 +34,20 @@ with_calls calls told = option_map (λ all. all ++ calls) told
 abbrev pub failing : DiskCall → DiskCall
 failing call = record call { answer = Failed }
 
--- these calls were made and done, and no others; no more of the disk's room is gone than for them
+-- these calls were made and done, and no others; they have used up no more of the disk's room than for them
 pub record HasMade {D : Type 0} (members : disk.Ghosts D) (old new : D) (calls : List DiskCall) : Type 0 where
   pub listed : members.calls new ≡ with_calls calls (members.calls old)
-  pub calls_left : (members.health old).calls ≤ (members.health new).calls + length calls
-  pub room_left : (members.health old).room ≤ (members.health new).room + written_by calls
+  pub used : IsUsed (members.health old) (members.health new) (length calls) (written_by calls)
 
 -- of these calls some first ones were done, the next one failed, and no others were made. The list lacks the one that
--- failed only where there was no sure room for all of them
+-- failed only where it was left out behind them
 pub record HasFailedIn {D : Type 0} (members : disk.Ghosts D) (old new : D) (calls : List DiskCall) : Type 0 where
   pub first : List DiskCall
   pub failed : DiskCall
   pub rest : List DiskCall
   pub are : calls ≡ first ++ failed ∷ rest
   pub listed : (members.calls new ≡ with_calls (first ++ failing failed ∷ []) (members.calls old))
-      ⊎ (IsCrowded (members.health old) (length calls) (written_by calls)
+      ⊎ (IsLeftOut (members.health old) (members.health new) (length first) (written_by first + length failed.bytes)
       × (members.calls new ≡ with_calls first (members.calls old)))
 
 -- the calls of some first works were made and done, and no others

@@ -5,8 +5,8 @@ use Rattle.gem_spool.specs.declared.works.Work.{Work}
 use Rattle.gem_spool.specs.Updates.{IsAmidUpdates, Update, behind_updates, calls_in, cell_update, only_early, reads}
 use Rattle.gem_spool.specs.Standing.{Standing}
 use Rattle.gem_spool.specs.Works.{updates_of, oldest_place, reserved as marked, standing_after}
-use Rattle.spool_slots.specs.Front.{mark_cell}
-use Rattle.spool_slots.specs.Logs.{written_by}
+use Rattle.spool_file.specs.Front.{mark_cell}
+use Rattle.spool_file.specs.Logs.{written_by}
 use Rattle.trace_log.specs.Log.{Happening, is_before_change}
 use Rattle.message_end.specs.Ends.{Asked}
 

@@ -1,8 +1,8 @@
 -- What a start finds in a file: its messages, each with its number.
 use Rattle.std.specs.Prelude.{ℕ, List, map}
-use Rattle.spool_slots.specs.Area.{first_of}
-use Rattle.spool_slots.specs.File.{SpoolFile}
-use Rattle.spool_slots.specs.Slot.{Message}
+use Rattle.spool_file.specs.Area.{first_of}
+use Rattle.spool_file.specs.File.{SpoolFile}
+use Rattle.spool_file.specs.Slot.{Message}
 use Rattle.trace_log.specs.Names.{Spooled}
 
 -- a message of the file

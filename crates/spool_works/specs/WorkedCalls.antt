@@ -6,9 +6,9 @@ use Rattle.gate_cell.specs.Cell.{Cell}
 use Rattle.gem_spool.specs.declared.works.Work.TheVariants.{DropOldest, Purge, Put}
 use Rattle.gem_spool.specs.Updates.{reads, syncs, writes}
 use Rattle.gem_spool.specs.Standing.{Standing}
+use Rattle.spool_file.specs.File.{SpoolFile}
+use Rattle.spool_file.specs.Slot.{Message}
 use Rattle.spool_slots.specs.Changes.{with_mark}
-use Rattle.spool_slots.specs.File.{SpoolFile}
-use Rattle.spool_slots.specs.Slot.{Message}
 use Rattle.spool_works.specs.DiskWorks.{DiskWork, standings_behind}
 use Rattle.spool_works.specs.DiskWorks.DiskWork.{Change, ReadOldest, Reserve}
 use Rattle.spool_works.specs.DiskCalls.{all_disk_calls}

@@ -1,7 +1,7 @@
 -- How much the calls of works write (this profile).
 use Rattle.std.specs.Prelude.{ℕ, ◌+◌, ◌*◌, ◌≤◌, List, [], ◌∷◌, ◌++◌, All, length, take}
 use Rattle.disk_base.specs.Calls.{DiskCall}
-use Rattle.spool_slots.specs.Logs.{written_by}
+use Rattle.spool_file.specs.Logs.{written_by}
 
 -- these calls write no more than 1,024 bytes each, taken together; and some first ones no more than 3,072 beyond that
 pub record WriteFew (calls : List DiskCall) : Type 0 where

@@ -12,7 +12,8 @@ use gem_vars::VarsPlan;
 use gl_base::{NoMemory, Row};
 use line_end::{LinePlan, Times};
 use message_flow::{NodeInput, StepOut};
-use spool_slots::{BODY_MOST, Raw, SLOT_SIZE, slot_place};
+use spool_file::{BODY_MOST, SLOT_SIZE, slot_place};
+use spool_slots::Raw;
 use std::alloc::Global;
 use std::process::ExitCode;
 use std::{env, io};
@@ -202,8 +203,8 @@ fn first_slot(disk: &mut MemDisk) -> Option<[u8; SLOT_SIZE]> {
     Some(slot)
 }
 
-// Writes the message of a slot under this number into the slot for it, as a spool does: five calls. Its gate is its first
-// byte: it is read first, and comes last.
+// Writes the message of a slot under this number into the slot for it, as a spool does: five calls. Its gate is its
+// first byte: it is read first, and comes last.
 fn write_message(disk: &mut MemDisk, number: u32, slot: &mut [u8; SLOT_SIZE]) -> Option<()> {
     let at = slot_place(number);
     if disk.size() < at + SLOT_SIZE as u64 {

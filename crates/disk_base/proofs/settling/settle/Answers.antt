@@ -1,8 +1,18 @@
--- The two calls are listed one behind the other.
+-- The two calls are listed one behind the other, and one of them is the cause of a fault.
 
+use Rattle.std.proofs.Common.{arith, length}
 use Rattle.disk_base.proofs.Listings.{listed_behind}
-use Rattle.disk_base.proofs.Stretches.{lists_on}
+use Rattle.disk_base.proofs.Stretches.{both_logged, cause_behind, lists_on}
 use Rattle.disk_base.proofs.settling.settle.Goals as goal
+
+pub returns-clause-calls : goal.returns-clause-calls
+returns-clause-calls g c =
+    both_logged _ _ _ c.args.at c.args.bytes.now _ _ _ c.sync.result c.in-Done.ensures.cause c.in-Done.ensures.calls c.sync.ensures.calls
+
+pub returns-clause-cause : goal.returns-clause-cause
+returns-clause-cause g c =
+    cause_behind _ _ 1 (length c.args.bytes.now) c.in-Done.ensures.cause _ 1 0 2 (length c.args.bytes.now) _ _ c.sync.result (omega arith)
+    (omega arith) (λ none. absurd none) c.sync.ensures.cause
 
 pub returns-clause-listed : goal.returns-clause-listed
 returns-clause-listed g c =

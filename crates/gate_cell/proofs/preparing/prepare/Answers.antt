@@ -1,10 +1,11 @@
 -- The value goes into the spare copy: what a crash leaves, which calls are listed, and what is prepared then.
 
-use Rattle.std.proofs.Common.{length, ℕ, ◌+◌, ◌≤◌, not, refl, sym, ap, subst, ◌∙◌, inl, inr, rules, arith}
+use Rattle.std.proofs.Common.{length, ℕ, ◌+◌, ◌<◌, ◌≤◌, not, refl, sym, ap, subst, ◌∙◌, inl, inr, rules, arith}
 use Rattle.disk_base.specs.Calls.{read_call, with_call}
 use Rattle.disk_base.specs.declared.disk.DiskAnswer.TheVariants.{Done, Failed}
+use Rattle.disk_base.specs.Faults.{IsLeftOut}
 use Rattle.disk_base.proofs.Listings.{listed_behind}
-use Rattle.disk_base.proofs.Stretches.{crowded_behind, lists_on}
+use Rattle.disk_base.proofs.Stretches.{fault_behind, left_out_behind, lists_on}
 use Rattle.gate_cell.proofs.Values.{logs_spare, place_is, prepared_is, prepares, settles_spare, told_before, untold}
 use Rattle.gate_cell.proofs.preparing.prepare.Goals as goal
 
@@ -21,7 +22,15 @@ returns-in-Failed-settle-clause-told g c = λ s told.
 pub returns-in-Failed-settle-clause-calls : goal.returns-in-Failed-settle-clause-calls
 returns-in-Failed-settle-clause-calls g c = λ s told.
     let there = (place_is s c.args.at _ _ c.copy_place.result _ c.names_second-second.result c.place_in-gate_place.ensures (c.in-Done.ensures.bytes s told) (search rules) c.names_second-second.ensures c.copy_place.ensures c.place_in-copy.ensures) in
-    inr (logs_spare s c.args.at c.args.value _ _ there.1 c.copy_bytes.ensures.bytes _ _ (crowded_behind _ _ 1 0 c.in-Done.ensures.cause 2 (length c.copy_bytes.result) 3 8 (omega arith) (omega (arith, c.copy_bytes.ensures.len))) _ _ _ Failed (c.in-Done.ensures.calls ∙ ap (λ (n : ℕ). with_call (read_call n 1 Done) (g.D.Disk.calls c.args.disk)) c.place_in-gate_place.ensures) c.in-Failed-settle.ensures.calls)
+    inr (logs_spare s c.args.at c.args.value _ _ there.1 c.copy_bytes.ensures.bytes
+    (IsLeftOut (g.D.Disk.health c.read.new.self) (g.D.Disk.health c.settle.new.disk))
+    (λ made n. IsLeftOut (g.D.Disk.health c.args.disk) (g.D.Disk.health c.settle.new.disk) (1 + made) n)
+    (λ made n few short is. left_out_behind _ _ 1 0 c.in-Done.ensures.cause _ made n (1 + made) n (omega arith) (omega arith) is) _ _ _ Failed (c.in-Done.ensures.calls ∙ ap (λ (n : ℕ). with_call (read_call n 1 Done) (g.D.Disk.calls c.args.disk)) c.place_in-gate_place.ensures) c.in-Failed-settle.ensures.calls)
+
+pub returns-in-Failed-settle-clause-cause : goal.returns-in-Failed-settle-clause-cause
+returns-in-Failed-settle-clause-cause g c =
+    fault_behind _ _ 1 0 c.in-Done.ensures.cause _ 2 3 _ ((g.D.Disk.health c.args.disk).room < 8) (omega arith)
+    (λ less. omega (arith, less, c.copy_bytes.ensures.len, c.in-Done.ensures.cause.room_left)) c.in-Failed-settle.ensures.cause
 
 pub returns-in-Failed-settle-clause-listed : goal.returns-in-Failed-settle-clause-listed
 returns-in-Failed-settle-clause-listed g c =
@@ -36,7 +45,10 @@ returns-in-Done-settle-clause-told g c = λ s told.
 pub returns-in-Done-settle-clause-calls : goal.returns-in-Done-settle-clause-calls
 returns-in-Done-settle-clause-calls g c = λ s told.
     let there = (place_is s c.args.at _ _ c.copy_place.result _ c.names_second-second.result c.place_in-gate_place.ensures (c.in-Done.ensures.bytes s told) (search rules) c.names_second-second.ensures c.copy_place.ensures c.place_in-copy.ensures) in
-    (logs_spare s c.args.at c.args.value _ _ there.1 c.copy_bytes.ensures.bytes _ _ (crowded_behind _ _ 1 0 c.in-Done.ensures.cause 2 (length c.copy_bytes.result) 3 8 (omega arith) (omega (arith, c.copy_bytes.ensures.len))) _ _ _ Done (c.in-Done.ensures.calls ∙ ap (λ (n : ℕ). with_call (read_call n 1 Done) (g.D.Disk.calls c.args.disk)) c.place_in-gate_place.ensures) c.in-Done-settle.ensures.calls)
+    (logs_spare s c.args.at c.args.value _ _ there.1 c.copy_bytes.ensures.bytes
+    (IsLeftOut (g.D.Disk.health c.read.new.self) (g.D.Disk.health c.settle.new.disk))
+    (λ made n. IsLeftOut (g.D.Disk.health c.args.disk) (g.D.Disk.health c.settle.new.disk) (1 + made) n)
+    (λ made n few short is. left_out_behind _ _ 1 0 c.in-Done.ensures.cause _ made n (1 + made) n (omega arith) (omega arith) is) _ _ _ Done (c.in-Done.ensures.calls ∙ ap (λ (n : ℕ). with_call (read_call n 1 Done) (g.D.Disk.calls c.args.disk)) c.place_in-gate_place.ensures) c.in-Done-settle.ensures.calls)
 
 pub returns-in-Done-settle-clause-listed : goal.returns-in-Done-settle-clause-listed
 returns-in-Done-settle-clause-listed g c =

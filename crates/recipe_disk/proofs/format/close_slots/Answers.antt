@@ -4,7 +4,7 @@ use Rattle.std.specs.Option.{option_map}
 use Rattle.disk_base.specs.Calls.{write_call}
 use Rattle.disk_base.specs.Story.{with_write}
 use Rattle.disk_base.specs.declared.disk.DiskAnswer.TheVariants.{Done, Failed}
-use Rattle.spool_slots.specs.Added.{WritesOrSyncs}
+use Rattle.spool_file.specs.Added.{WritesOrSyncs}
 use Rattle.recipe_disk.specs.Opening.{ClosesTo}
 use Rattle.recipe_disk.proofs.Fresh.{closes_more, none_closed}
 use Rattle.recipe_disk.proofs.Made.{made_behind, made_none, made_one}

@@ -1,7 +1,7 @@
 -- The slots so far are closed.
 use Rattle.std.proofs.Common.{◌≡◌}
 use Rattle.disk_base.specs.declared.disk.DiskAnswer.TheVariants.{Done}
-use Rattle.spool_slots.specs.Added.{WritesOrSyncs}
+use Rattle.spool_file.specs.Added.{WritesOrSyncs}
 use Rattle.recipe_disk.specs.Opening.{ClosesTo}
 use Rattle.recipe_disk.specs.Reading.{HasMade}
 use Rattle.recipe_disk.proofs.format.close_slots.Given as goal

@@ -4,7 +4,7 @@ use Rattle.std.specs.Option.{option_map}
 use Rattle.disk_base.specs.Calls.{sync_call, write_call}
 use Rattle.disk_base.specs.Story.{with_write}
 use Rattle.disk_base.specs.declared.disk.DiskAnswer.TheVariants.{Done, Failed}
-use Rattle.spool_slots.specs.Added.{WritesOrSyncs}
+use Rattle.spool_file.specs.Added.{WritesOrSyncs}
 use Rattle.recipe_disk.specs.Opening.{first_page}
 use Rattle.recipe_disk.proofs.Fresh.{stands_empty}
 use Rattle.recipe_disk.proofs.Made.{made_behind, made_one}

@@ -1,6 +1,6 @@
 -- What is left is unlike where all is.
 use Rattle.std.proofs.Common.{◌≡◌, ◌+◌, length}
-use Rattle.spool_slots.specs.Front.{unlike_at}
+use Rattle.spool_file.specs.Front.{unlike_at}
 use Rattle.recipe_disk.proofs.front.unlike.Given as goal
 
 abbrev pub invariant-loop-wanted : goal.invariant-loop-wanted

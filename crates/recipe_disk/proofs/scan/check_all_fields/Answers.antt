@@ -1,8 +1,8 @@
 -- The first slot whose fields break is the break; with none left none do. The slots so far were read.
 use Rattle.std.proofs.Common.{◌≡◌, ◌∙◌, None, arith, length-set, subst}
 use Rattle.disk_base.specs.declared.disk.DiskAnswer.TheVariants.{Done, Failed}
-use Rattle.spool_slots.proofs.Firsts.{first_found, first_next}
-use Rattle.spool_slots.specs.Area.{first_at}
+use Rattle.spool_file.specs.Area.{first_at}
+use Rattle.spool_file.proofs.Firsts.{first_found, first_next}
 use Rattle.recipe_disk.specs.File.{fields_at}
 use Rattle.recipe_disk.specs.Hints.{AreHints}
 use Rattle.recipe_disk.specs.Slot.{slot_in}

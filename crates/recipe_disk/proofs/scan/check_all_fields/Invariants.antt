@@ -2,7 +2,7 @@
 use Rattle.std.proofs.Common.{◌≡◌, None, Some, length}
 use Rattle.disk_base.specs.Story.{Story}
 use Rattle.disk_base.specs.declared.disk.DiskAnswer.TheVariants.{Done}
-use Rattle.spool_slots.specs.Area.{first_at}
+use Rattle.spool_file.specs.Area.{first_at}
 use Rattle.recipe_disk.specs.File.{fields_at}
 use Rattle.recipe_disk.specs.Hints.{KnowsSlots}
 use Rattle.recipe_disk.specs.Reading.{HasLooked}

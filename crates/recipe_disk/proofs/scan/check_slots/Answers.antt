@@ -1,7 +1,7 @@
 -- The tests in their order: fields, numbers, and how many names there are.
 use Rattle.std.proofs.Common.{◌∙◌, ◌+◌, ◌-◌, ℕ, None, Some, ap, arith, sym}
 use Rattle.disk_base.specs.declared.disk.DiskAnswer.TheVariants.{Done, Failed}
-use Rattle.spool_slots.specs.Area.{or_else}
+use Rattle.spool_file.specs.Area.{or_else}
 use Rattle.recipe_disk.specs.File.{area_break, names_break}
 use Rattle.recipe_disk.specs.Hints.{AreHints}
 use Rattle.recipe_disk.specs.Reading.{reading_answer}

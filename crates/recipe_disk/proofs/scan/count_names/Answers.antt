@@ -3,8 +3,8 @@ use Rattle.std.proofs.Common.{◌≡◌, ◌∙◌, ◌+◌, ◌≤◌, None, ar
 use Rattle.std.specs.FinMap.{len, len-empty}
 use Rattle.disk_base.specs.declared.disk.DiskAnswer.TheVariants.{Done, Failed}
 use Rattle.gem_recipes.specs.Recipes.{Recipe, by_bytes}
-use Rattle.spool_slots.proofs.Firsts.{first_found, first_next}
-use Rattle.spool_slots.specs.Area.{first_at}
+use Rattle.spool_file.specs.Area.{first_at}
+use Rattle.spool_file.proofs.Firsts.{first_found, first_next}
 use Rattle.recipe_disk.specs.File.{number_at}
 use Rattle.recipe_disk.specs.Map.{recipes_below}
 use Rattle.recipe_disk.specs.Slot.{slot_in}

@@ -3,7 +3,7 @@ use Rattle.std.proofs.Common.{◌≡◌, ◌≤◌, None, Some}
 use Rattle.std.specs.FinMap.{len}
 use Rattle.disk_base.specs.Story.{Story}
 use Rattle.disk_base.specs.declared.disk.DiskAnswer.TheVariants.{Done}
-use Rattle.spool_slots.specs.Area.{first_at}
+use Rattle.spool_file.specs.Area.{first_at}
 use Rattle.recipe_disk.specs.File.{number_at}
 use Rattle.recipe_disk.specs.Map.{recipes_below}
 use Rattle.recipe_disk.specs.Reading.{HasLooked}

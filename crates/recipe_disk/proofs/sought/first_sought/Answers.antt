@@ -1,7 +1,7 @@
 -- The first such slot decides; without one none is such a one. What was read of the slots so far was read alone.
 use Rattle.std.proofs.Common.{◌≡◌, ◌∙◌, Some, None, ap, arith, false, subst, sym, if◌then◌else◌}
 use Rattle.disk_base.specs.declared.disk.DiskAnswer.TheVariants.{Done, Failed}
-use Rattle.spool_slots.proofs.Firsts.{first_found, first_next}
+use Rattle.spool_file.proofs.Firsts.{first_found, first_next}
 use Rattle.recipe_disk.specs.Hints.{first_there, is_there}
 use Rattle.recipe_disk.proofs.Hinted.{place_if}
 use Rattle.recipe_disk.proofs.Made.{looked_behind}

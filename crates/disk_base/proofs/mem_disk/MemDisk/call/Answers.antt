@@ -25,7 +25,7 @@ pub returns-then-is_crowded-clause-state : goal.returns-then-is_crowded-clause-s
 returns-then-is_crowded-clause-state c =
     let crowded = c.is_crowded.ensures.crowded in
     let full = full_is c.self.inside (length c.args.bytes.now) true (search rules) (search rules) in
-    let d : Inside = record c.self.inside { plan = c.step-planned.new.self; faults = c.saturating_add-self-inside.result } in
+    let d : Inside = record c.self.inside { plan = c.refuse.new.self; faults = c.saturating_add-self-inside.result } in
     subst (λ (s : DiskState). disk_state d ≡ after_call (call_due c.args.kind c.args.at c.args.size c.args.bytes.now s) s) c.self.view_is (refused c.self.inside d _ (search rules) full)
 
 pub invariant_of-self-then-stopped : goal.invariant_of-self-then-stopped
