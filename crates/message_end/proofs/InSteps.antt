@@ -21,42 +21,11 @@ pub record IsQuietNote (what : Happening) : Type 0 where
 
 pub quiet-note : (what : Happening) → MayNote what → IsQuietNote what
 quiet-note (Happening.EquipmentStarted found base) may = absurd may
-quiet-note Happening.HostStarted may = absurd may
-quiet-note Happening.Power may = record { plain = tt; no_end = tt; asked = λ asked. refl }
-quiet-note Happening.Closed may = record { plain = tt; no_end = tt; asked = λ asked. refl }
+quiet-note (Happening.HostStarted journal) may = absurd may
 quiet-note (Happening.Sent message) may = absurd may
 quiet-note (Happening.Received message) may = absurd may
-quiet-note (Happening.Wrote characters) may = record { plain = tt; no_end = tt; asked = λ asked. refl }
-quiet-note (Happening.Comms state) may = record { plain = tt; no_end = tt; asked = λ asked. refl }
-quiet-note (Happening.Control state) may = record { plain = tt; no_end = tt; asked = λ asked. refl }
-quiet-note (Happening.Spool active) may = record { plain = tt; no_end = tt; asked = λ asked. refl }
-quiet-note (Happening.Set vid) may = record { plain = tt; no_end = tt; asked = λ asked. refl }
-quiet-note (Happening.Event ceid dataid) may = record { plain = tt; no_end = tt; asked = λ asked. refl }
-quiet-note (Happening.Alarm alid set) may = record { plain = tt; no_end = tt; asked = λ asked. refl }
-quiet-note (Happening.Carried rcmd) may = record { plain = tt; no_end = tt; asked = λ asked. refl }
-quiet-note (Happening.Display tid text) may = record { plain = tt; no_end = tt; asked = λ asked. refl }
-quiet-note Happening.Refused may = record { plain = tt; no_end = tt; asked = λ asked. refl }
-quiet-note (Happening.Storing number message) may = record { plain = tt; no_end = tt; asked = λ asked. refl }
-quiet-note (Happening.Stored number) may = record { plain = tt; no_end = tt; asked = λ asked. refl }
-quiet-note (Happening.Leaving number cause) may = record { plain = tt; no_end = tt; asked = λ asked. refl }
-quiet-note (Happening.Gone number) may = record { plain = tt; no_end = tt; asked = λ asked. refl }
-quiet-note (Happening.Try number system) may = record { plain = tt; no_end = tt; asked = λ asked. refl }
-quiet-note (Happening.Duplicate header) may = record { plain = tt; no_end = tt; asked = λ asked. refl }
-quiet-note (Happening.Unexpected header) may = record { plain = tt; no_end = tt; asked = λ asked. refl }
-quiet-note (Happening.Foreign header) may = record { plain = tt; no_end = tt; asked = λ asked. refl }
-quiet-note (Happening.TooLongBlock header) may = record { plain = tt; no_end = tt; asked = λ asked. refl }
-quiet-note (Happening.Crowded header) may = record { plain = tt; no_end = tt; asked = λ asked. refl }
-quiet-note (Happening.DroppedByT4 header) may = record { plain = tt; no_end = tt; asked = λ asked. refl }
-quiet-note (Happening.Failed title) may = record { plain = tt; no_end = tt; asked = λ asked. refl }
-quiet-note (Happening.TimedOut title) may = record { plain = tt; no_end = tt; asked = λ asked. refl }
-quiet-note (Happening.Stranger title) may = record { plain = tt; no_end = tt; asked = λ asked. refl }
-quiet-note (Happening.Dropped name) may = record { plain = tt; no_end = tt; asked = λ asked. refl }
-quiet-note (Happening.Denied name) may = record { plain = tt; no_end = tt; asked = λ asked. refl }
-quiet-note (Happening.Discarded name) may = record { plain = tt; no_end = tt; asked = λ asked. refl }
-quiet-note (Happening.TooLong name) may = record { plain = tt; no_end = tt; asked = λ asked. refl }
-quiet-note (Happening.Full name) may = record { plain = tt; no_end = tt; asked = λ asked. refl }
-quiet-note (Happening.Recorded past) may = record { plain = tt; no_end = tt; asked = λ asked. refl }
 quiet-note Happening.StepEnded may = absurd may
+quiet-note what may = record { plain = tt; no_end = tt; asked = λ asked. refl }
 
 -- with such a note behind them
 pub steps-said :

@@ -1,5 +1,5 @@
 -- What a step of parts leaves: its reading in lines, as that in happenings.
-use Rattle.std.proofs.Common.{◌≡◌, refl, sym, ap, ◌∙◌, Option, Some, List, [], ◌∷◌, arith}
+use Rattle.std.proofs.Common.{◌≡◌, refl, sym, ap, ◌∙◌, false, Option, Some, List, [], ◌∷◌, arith}
 use Rattle.std.specs.Prelude.{Result, Ok, Err}
 use Rattle.message_flow.specs.declared.step.Note.{Note}
 use Rattle.message_flow.specs.declared.step.StepOut.{StepOut}
@@ -107,8 +107,10 @@ module _ {S K : Type 0} (parts : List (Part S K)) (s : Node S K) (out : StepOut)
       (new : Node S K) (middle after : StepOut) (end : Stop)
       → ComesTo {A = Unit {0}} (after_parts printed_note parts (on_the_way s out)) new middle (Err end)
       → after.notes ≡ middle.notes → after.line.items ≡ []
-      → (fronts : List (List Happening)) → Leaves fronts (after_parts Some parts (at_first s)) new after (Err end)
+      → (fronts : List (List Happening))
+      → Leaves fronts false (after_parts Some parts (at_first s)) new after (Err end)
   leaves-stopped new middle after stop.NumbersSpent done notes quiet fronts =
-      leaves-spent new middle after done notes quiet
+      (leaves-spent new middle after done notes quiet, refl)
+  leaves-stopped new middle after stop.Full done notes quiet fronts = absurd done
   leaves-stopped new middle after stop.DiskFailed done notes quiet fronts = absurd done
   leaves-stopped new middle after stop.NoMemory done notes quiet fronts = quiet

@@ -25,5 +25,6 @@ mod Open
 pub mod Parts
 pub mod PartsKept
 pub mod Reading
+pub mod Starts
 pub mod Steps
 pub mod Such

@@ -14,54 +14,22 @@ use Rattle.message_end.specs.Ends.Input.{Time}
 use Rattle.message_end.specs.History.{IsHistoryOf, noted_in, written_in}
 use Rattle.message_end.specs.InStep.{EndsOnce, HasNoEnd}
 use Rattle.message_end.specs.Laws.{new_end}
-use Rattle.message_end.specs.Parts.{Design, Did, Node, after_parts, machine_of, next_of, started}
+use Rattle.message_end.specs.Parts.{Design, Did, Node, after_parts, bare_started, machine_of, next_of}
+use Rattle.message_end.specs.Ends.IsOfWorld.{of_power, of_wrote}
 use Rattle.message_end.specs.Plan.{EndPlan}
+use Rattle.message_end.specs.Starts.{bare_start}
 use Rattle.message_end.proofs.Courses.{in-turn}
 use Rattle.message_end.proofs.InSteps.{history-ends, quiet-note, steps-said}
 use Rattle.message_end.proofs.Lawful as core
 use Rattle.message_end.proofs.Parts.{IsStepOf, OnEither}
 use Rattle.message_end.proofs.PartsKept.{Begun, Closed, NodeAt, at-step, step_ended}
+use Rattle.message_end.proofs.Starts.{bare-start}
 use Rattle.message_end.proofs.Steps.{Laws}
 
 -- what the world notes of an end is of no message, and ends no step
 pub world-may-note : (what : Happening) → IsOfWorld what → MayNote what
-world-may-note (Happening.EquipmentStarted found base) is = absurd is
-world-may-note Happening.HostStarted is = absurd is
-world-may-note Happening.Power is = tt
-world-may-note Happening.Closed is = absurd is
-world-may-note (Happening.Sent message) is = absurd is
-world-may-note (Happening.Received message) is = absurd is
-world-may-note (Happening.Wrote characters) is = tt
-world-may-note (Happening.Comms state) is = absurd is
-world-may-note (Happening.Control state) is = absurd is
-world-may-note (Happening.Spool active) is = absurd is
-world-may-note (Happening.Set vid) is = absurd is
-world-may-note (Happening.Event ceid dataid) is = absurd is
-world-may-note (Happening.Alarm alid set) is = absurd is
-world-may-note (Happening.Carried rcmd) is = absurd is
-world-may-note (Happening.Display tid text) is = absurd is
-world-may-note Happening.Refused is = absurd is
-world-may-note (Happening.Storing number message) is = absurd is
-world-may-note (Happening.Stored number) is = absurd is
-world-may-note (Happening.Leaving number cause) is = absurd is
-world-may-note (Happening.Gone number) is = absurd is
-world-may-note (Happening.Try number system) is = absurd is
-world-may-note (Happening.Duplicate header) is = absurd is
-world-may-note (Happening.Unexpected header) is = absurd is
-world-may-note (Happening.Foreign header) is = absurd is
-world-may-note (Happening.TooLongBlock header) is = absurd is
-world-may-note (Happening.Crowded header) is = absurd is
-world-may-note (Happening.DroppedByT4 header) is = absurd is
-world-may-note (Happening.Failed title) is = absurd is
-world-may-note (Happening.TimedOut title) is = absurd is
-world-may-note (Happening.Stranger title) is = absurd is
-world-may-note (Happening.Dropped name) is = absurd is
-world-may-note (Happening.Denied name) is = absurd is
-world-may-note (Happening.Discarded name) is = absurd is
-world-may-note (Happening.TooLong name) is = absurd is
-world-may-note (Happening.Full name) is = absurd is
-world-may-note (Happening.Recorded past) is = absurd is
-world-may-note Happening.StepEnded is = absurd is
+world-may-note _ (of_wrote characters) = tt
+world-may-note _ of_power = tt
 
 -- a start, and what the world notes of an end
 pub begins-new :
@@ -199,16 +167,17 @@ module _
     started =
         subst
         (λ (p : EndPlan).
-        HasStarted plan (Did Sound plan) s.core.numbers.next (started {K = K} p (design.again s.own) [] s.core.numbers))
+        HasStarted plan (Did Sound plan) s.core.numbers.next (bare_started {K = K} p (design.again s.own) s.core.numbers))
         (sym (same s.own did.sound))
         (record {
           base = s.core.numbers.next;
-          found = [];
+          note = bare_start plan.side s.core.numbers.next;
           is = record {
             sound = again s.own did.sound;
             is = (core.lawful {K = K} laws).begins plan s.core.numbers fits did.is.core.numbers.left;
           };
           above = omega arith;
+          of_side = bare-start plan.side s.core.numbers.next;
           notes = refl;
           written = refl;
         });
@@ -221,19 +190,20 @@ module _
       → ((base : ℕ) (input : Input C) (now : ℕ) → MayTake takes_it input
       → IsStepOf plan base Sound input now (design.parts input now))
       → ((step : Step (Node S K) Happening)
-      → (machine_of design).act (started plan own [] (numbers_from 0 (2 ^ 32))).next Time 0 ≢ Spent step)
-      → KeepsLaw plan (Did Sound plan) takes_it (Goes (started plan own [] (numbers_from 0 (2 ^ 32))))
+      → (machine_of design).act (bare_started plan own (numbers_from 0 (2 ^ 32))).next Time 0 ≢ Spent step)
+      → KeepsLaw plan (Did Sound plan) takes_it (Goes (bare_started plan own (numbers_from 0 (2 ^ 32))))
       (machine_of design)
   node-lawful own sound again same steps begins = record {
     fits = fits;
     starts = record {
       base = 0;
-      found = [];
+      note = bare_start plan.side 0;
       is = record {
         sound = sound;
         is = (core.lawful {K = K} laws).begins plan (numbers_from 0 (2 ^ 32)) fits all_left;
       };
       above = omega arith;
+      of_side = bare-start plan.side 0;
       notes = refl;
       written = refl;
     };
@@ -258,7 +228,7 @@ module _
       all_left = search rules
 
       first-is :
-          (first : Step (Node S K) Happening) → Goes (started plan own [] (numbers_from 0 (2 ^ 32))) ≡ Goes first
-          → (started {K = K} plan own [] (numbers_from 0 (2 ^ 32))).next ≡ first.next
+          (first : Step (Node S K) Happening) → Goes (bare_started plan own (numbers_from 0 (2 ^ 32))) ≡ Goes first
+          → (bare_started {K = K} plan own (numbers_from 0 (2 ^ 32))).next ≡ first.next
       first-is first is =
           ap (λ (went : Went (Node S K) Happening). next_of went) is

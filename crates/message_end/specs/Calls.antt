@@ -22,7 +22,7 @@ use Rattle.transact.specs.Numbers.{NumbersView}
 use Rattle.transact.specs.Transactions as transactions
 use Rattle.transact.specs.Transactions.{deadline_of, is_answered_by, primary_of}
 use Rattle.message_end.specs.declared.end.Stop.{Stop}
-use Rattle.message_end.specs.declared.end.Stop.TheVariants.{DiskFailed, NoMemory, NumbersSpent}
+use Rattle.message_end.specs.declared.end.Stop.TheVariants.{DiskFailed, Full, NoMemory, NumbersSpent}
 use Rattle.message_end.specs.declared.end.Took.{Took}
 use Rattle.message_end.specs.declared.end.Took.TheVariants as took
 use Rattle.message_end.specs.declared.unsent.Unsent.{Unsent}
@@ -34,10 +34,11 @@ use Rattle.message_end.specs.Laws.{new_end}
 abbrev pub in_step : {K : Type 0} → EndView K → StepOut → Step (EndView K) Note
 in_step e out = record { next = e; notes = out.notes; written = out.line.items }
 
--- unless memory runs out, this is what comes of it. A core has no disk
+-- unless memory runs out, this is what comes of it. A core has no disk, and no store that could be full
 abbrev pub Does : {A K : Type 0} → Went (EndView K) Note → EndView K → StepOut → Result A Stop → Type 0
 Does went new out (Ok done) = went ≡ Goes (in_step new out)
 Does went new out (Err NumbersSpent) = went ≡ Spent (in_step new out)
+Does went new out (Err Full) = ⊥
 Does went new out (Err DiskFailed) = ⊥
 Does went new out (Err NoMemory) = Unit {0}
 

@@ -93,7 +93,7 @@ pub record Step (S N : Type 0) : Type 0 where
   pub notes : List N
   pub written : List ℕ
 
--- it goes on, or the numbers are spent
+-- it goes on, or it ends early: the numbers are spent, or the end's own store is full
 pub data Went (S N : Type 0) : Type 0 where
   Goes : (step : Step S N) → Went S N
   Spent : (step : Step S N) → Went S N

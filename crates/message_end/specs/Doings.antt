@@ -122,7 +122,7 @@ abbrev pub IsPlain : Happening → Type 0
 IsPlain (Happening.Sent message) = ⊥
 IsPlain (Happening.Received message) = ⊥
 IsPlain (Happening.EquipmentStarted found base) = ⊥
-IsPlain Happening.HostStarted = ⊥
+IsPlain (Happening.HostStarted journal) = ⊥
 IsPlain _ = Unit {0}
 
 -- what is done next agrees with all that was done before

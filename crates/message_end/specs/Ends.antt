@@ -1,6 +1,6 @@
 -- What an end of the line is to those above: what it is given in a step, what it makes of that, and the law that it
 -- keeps.
-use Rattle.std.specs.Prelude.{◌≡◌, ◌≢◌, ◌⊎◌, ◌+◌, ◌-◌, ◌<◌, ◌≤◌, zero, suc, ℕ, Bool, false, List, [], ◌∷◌, ◌++◌, length, Option, Some, None, Result, Ok, Err}
+use Rattle.std.specs.Prelude.{◌≡◌, ◌≢◌, ◌⊎◌, ◌+◌, ◌-◌, ◌<◌, ◌≤◌, zero, suc, ℕ, Bool, true, false, List, [], ◌∷◌, ◌++◌, length, Option, Some, None, Result, Ok, Err}
 use Rattle.std.specs.List.{filter_map, slice_get}
 use Rattle.disk_base.specs.declared.cut.CutChoice.{CutChoice}
 use Rattle.line_end.specs.Plan.{LinePlanFits}
@@ -13,7 +13,6 @@ use Rattle.message_flow.specs.declared.step.Note.{Note}
 use Rattle.message_flow.specs.declared.step.StepOut.{StepOut}
 use Rattle.trace_log.specs.Log.{Happening}
 use Rattle.trace_log.specs.Log.Happening.{Power, Wrote}
-use Rattle.trace_log.specs.Names.{Spooled}
 use Rattle.trace_log.specs.Text.{printed_note}
 use Rattle.message_end.specs.declared.end.Stop.{Stop}
 use Rattle.message_end.specs.declared.end.Stop.TheVariants as stop
@@ -25,9 +24,9 @@ use Rattle.message_end.specs.Drops.{AreDroppedAt}
 use Rattle.message_end.specs.History.{noted_in, written_in}
 use Rattle.message_end.specs.InStep.{AreOfOneStep, EndsOnce, HasNoEnd, NoneEnds, ReplyInTheirSteps}
 use Rattle.message_end.specs.LineCalls.{calls_in}
-use Rattle.message_end.specs.Log.{start_of}
 use Rattle.message_end.specs.Own.{Has, drawn_in, whole_in}
 use Rattle.message_end.specs.Plan.{EndPlan}
+use Rattle.message_end.specs.Starts.{IsStartOf}
 
 -- what an end is given in a step: a character, time, or a command of its own side
 pub data Input (C : Type 0) : Type 0 where
@@ -52,14 +51,16 @@ pub record Loss (S : Type 0) : Type 0 where
   pub front : List Happening
   pub left : CutChoice → S
 
--- what an end makes of its state in a step at a moment, and when it starts anew without power; and its line. Its disk
--- may stop a step, or a start, with these notes: one list for each piece of work that it asks of the disk, in their
--- order; and all of them ask so much of it. A step may be stopped, or its power lost, at each call of the disk, in
--- their order; and so many calls has a start left behind it, those that have made or taken up its file among them
+-- what an end makes of its state in a step at a moment, and when it starts anew without power; and its line. A step
+-- that ends early either fills the end's own store, or its numbers are spent. Its disk may stop a step, or a start,
+-- with these notes: one list for each piece of work that it asks of the disk, in their order; and all of them ask so
+-- much of it. A step may be stopped, or its power lost, at each call of the disk, in their order; and so many calls has
+-- a start left behind it, those that have made or taken up its file among them
 pub record Machine (S C : Type 0) : Type 0 where
   pub act : S → Input C → ℕ → Went S Happening
   pub restart : S → ℕ → Went S Happening
   pub line : S → LineState
+  pub fills : S → Input C → ℕ → Bool
   pub stops : S → Input C → ℕ → List (List Happening)
   pub start_stops : List (List Happening)
   pub asks : S → Input C → ℕ → Asked
@@ -115,7 +116,7 @@ pub record HasGone {S : Type 0} (went : Went S Happening) (next : S) (out : Step
   pub notes : out.notes ≡ printed step.notes
   pub written : out.line.items ≡ step.written
 
--- the numbers are spent: what was noted is there, and nothing is sent
+-- it has ended early: what was noted is there, and nothing is sent
 pub record HasSpent {S : Type 0} (went : Went S Happening) (out : StepOut) : Type 0 where
   pub step : Step S Happening
   pub is : went ≡ Spent step
@@ -136,20 +137,22 @@ pub record HasStopped {S : Type 0} (fronts : List (List Happening)) (went : Went
   pub notes : out.notes ≡ printed front
   pub quiet : out.line.items ≡ []
 
--- a step goes on, or the numbers are spent, or the disk stops it with some of these notes. Where memory runs out
+-- a step goes on, or ends early, by what it fills, or the disk stops it with some of these notes. Where memory runs out
 -- nothing is sent, and no more is said
 abbrev pub Leaves :
-    {S : Type 0} → List (List Happening) → Went S Happening → S → StepOut → Result (Unit {0}) Stop → Type 0
-Leaves fronts went next out (Ok done) = HasGone went next out
-Leaves fronts went next out (Err stop.NumbersSpent) = HasSpent went out
-Leaves fronts went next out (Err stop.DiskFailed) = HasStopped fronts went out
-Leaves fronts went next out (Err stop.NoMemory) = out.line.items ≡ []
+    {S : Type 0} → List (List Happening) → Bool → Went S Happening → S → StepOut → Result (Unit {0}) Stop → Type 0
+Leaves fronts fills went next out (Ok done) = HasGone went next out
+Leaves fronts fills went next out (Err stop.NumbersSpent) = HasSpent went out × (fills ≡ false)
+Leaves fronts fills went next out (Err stop.Full) = HasSpent went out × (fills ≡ true)
+Leaves fronts fills went next out (Err stop.DiskFailed) = HasStopped fronts went out
+Leaves fronts fills went next out (Err stop.NoMemory) = out.line.items ≡ []
 
--- the same of a first start, which gives an end
+-- the same of a first start, which gives an end and fills nothing
 abbrev pub Starts :
     {E S : Type 0} → List (List Happening) → Went S Happening → (E → S) → StepOut → Result E Stop → Type 0
 Starts fronts went means out (Ok end) = HasGone went (means end) out
 Starts fronts went means out (Err stop.NumbersSpent) = HasSpent went out
+Starts fronts went means out (Err stop.Full) = ⊥
 Starts fronts went means out (Err stop.DiskFailed) = HasStopped fronts went out
 Starts fronts went means out (Err stop.NoMemory) = out.line.items ≡ []
 
@@ -169,6 +172,7 @@ abbrev pub Uses : Asked → Asked → Asked → Result (Unit {0}) Stop → Type 
 Uses room asked left (Ok done) = IsLeft room asked left
 Uses room asked left (Err stop.DiskFailed) = IsShort room asked
 Uses room asked left (Err stop.NumbersSpent) = Unit {0}
+Uses room asked left (Err stop.Full) = Unit {0}
 Uses room asked left (Err stop.NoMemory) = Unit {0}
 
 -- ---- where its disk stops it
@@ -177,6 +181,7 @@ Uses room asked left (Err stop.NoMemory) = Unit {0}
 abbrev pub IsNotStopped : {R : Type 0} → Result R Stop → Type 0
 IsNotStopped (Ok done) = Unit {0}
 IsNotStopped (Err stop.NumbersSpent) = Unit {0}
+IsNotStopped (Err stop.Full) = Unit {0}
 IsNotStopped (Err stop.DiskFailed) = ⊥
 IsNotStopped (Err stop.NoMemory) = Unit {0}
 
@@ -194,14 +199,15 @@ pub record HasLost {S C : Type 0}
   pub notes : out.notes ≡ printed loss.front
   pub starts : (choice : CutChoice) (now : ℕ) → anew choice now ≡ machine.restart (loss.left choice) now
 
--- a step goes on where the planned call isn't among its own; a disk that stops it does so at that call; and the numbers
--- are spent only in a step that isn't stopped
+-- a step goes on where the planned call isn't among its own; a disk that stops it does so at that call; and a step that
+-- ends early isn't stopped
 abbrev pub EndsBy :
     {S C : Type 0} → Machine S C → List (Loss S) → (before after : ℕ) → Bool → (CutChoice → ℕ → Went S Happening)
     → StepOut → Result (Unit {0}) Stop → Type 0
 EndsBy machine losses before after stopped anew out (Ok done) = IsNearer losses before after × (stopped ≡ false)
 EndsBy machine losses before after stopped anew out (Err stop.DiskFailed) = HasLost machine losses before anew out
 EndsBy machine losses before after stopped anew out (Err stop.NumbersSpent) = call_of before losses ≡ None
+EndsBy machine losses before after stopped anew out (Err stop.Full) = call_of before losses ≡ None
 EndsBy machine losses before after stopped anew out (Err stop.NoMemory) = Unit {0}
 
 -- there are numbers to start with
@@ -253,7 +259,7 @@ pub record DoesMore {S : Type 0}
   pub drops : AreDroppedAt now done
   pub ends : Ends done
 
--- all of a step, with its end last; or what was done until the numbers were spent, and then no step has ended
+-- all of a step, with its end last; or what was done until it ended early, and then no step has ended
 abbrev pub DoesStep :
     {S C : Type 0} → EndPlan → (ℕ → List Doing → S → Type 0) → ℕ → List Doing → Input C → ℕ
     → Went S Happening → Type 0
@@ -266,10 +272,11 @@ DoesStep plan did base doings input now (Spent step) =
 pub record HasStarted {S : Type 0}
     (plan : EndPlan) (did : ℕ → List Doing → S → Type 0) (least : ℕ) (step : Step S Happening) : Type 0 where
   pub base : ℕ
-  pub found : List (ℕ × Spooled)
+  pub note : Happening
   pub is : did base [] step.next
   pub above : least ≤ base
-  pub notes : step.notes ≡ start_of plan.side found base ∷ []
+  pub of_side : IsStartOf plan.side note base
+  pub notes : step.notes ≡ note ∷ []
   pub written : step.written ≡ []
 
 -- it draws no number again that was drawn in the start before
@@ -295,10 +302,9 @@ pub record IsMadeOf (plan : EndPlan) (base : ℕ) (doings : List Doing) (line : 
   pub replies : ReplyInTheirSteps plan doings
 
 -- what the world itself notes of an end
-abbrev pub IsOfWorld : Happening → Type 0
-IsOfWorld (Wrote characters) = Unit {0}
-IsOfWorld Power = Unit {0}
-IsOfWorld _ = ⊥
+pub data IsOfWorld : Happening → Type 0 where
+  of_wrote : (characters : List ℕ) → IsOfWorld (Wrote characters)
+  of_power : IsOfWorld Power
 
 -- the first ones of the doings of a step keep the law, with exactly these notes and the first calls of its line, and
 -- the end could have gone on from there to some state

@@ -16,5 +16,6 @@ pub mod Moves
 pub mod Own
 pub mod Parts
 pub mod Plan
+pub mod Starts
 pub mod Worked
 pub mod WorkedSteps

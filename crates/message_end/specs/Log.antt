@@ -1,15 +1,13 @@
 -- The log of two ends.
 use Rattle.std.specs.Prelude.{ℕ, List, [], ◌∷◌, Option, Some, None}
 use Rattle.gl_base.specs.declared.side.Side.{Side}
-use Rattle.gl_base.specs.declared.side.Side.TheVariants.{Equipment, Host}
 use Rattle.message_end.specs.Doings.{Doing}
 use Rattle.message_end.specs.Doings.Doing.{Calls, Does, Gives, Says}
 use Rattle.message_end.specs.Own.{Own}
 use Rattle.message_end.specs.Own.Own.{ReceivedMessage, SentMessage}
 use Rattle.trace_log.specs.Log.{Entry, Happening}
 use Rattle.trace_log.specs.Log.Entry.{Noted}
-use Rattle.trace_log.specs.Log.Happening.{EquipmentStarted, HostStarted, Received, Sent}
-use Rattle.trace_log.specs.Names.{Spooled}
+use Rattle.trace_log.specs.Log.Happening.{Received, Sent}
 use Rattle.message_end.specs.Moves.{Kind, Move}
 use Rattle.message_end.specs.Moves.Kind.{Added, Changed, Did, Lost, Started}
 
@@ -25,13 +23,9 @@ noted_of (Gives place number block now) = None
 noted_of (Calls call) = None
 noted_of (Says what) = Some what
 
-abbrev pub start_of : Side → List (ℕ × Spooled) → ℕ → Happening
-start_of Equipment found base = EquipmentStarted found base
-start_of Host found base = HostStarted
-
 abbrev pub noted_at : Side → Kind → Option Happening
 noted_at side (Did doing) = noted_of doing
-noted_at side (Started found base) = Some (start_of side found base)
+noted_at side (Started note base) = Some note
 noted_at side Lost = None
 noted_at side (Changed place byte) = None
 noted_at side (Added byte) = None

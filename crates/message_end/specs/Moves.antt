@@ -17,14 +17,15 @@ use Rattle.message_end.specs.Own.{Giving, Has, Own, drawn_in, given_in, sent_in}
 use Rattle.message_end.specs.Own.Own.{ReceivedMessage}
 use Rattle.message_end.specs.Plan.{EndPlan}
 use Rattle.message_flow.specs.declared.message.Message.{Message}
-use Rattle.trace_log.specs.Names.{Spooled}
+use Rattle.message_end.specs.Starts.{IsStartOf}
+use Rattle.trace_log.specs.Log.{Happening}
 
 -- an end does something, where a character that it takes is the next on its way to it; it starts anew without what it
--- held, found these messages in its spool, and may draw numbers from a base on; or the next character on its way to it
--- is lost, the one at a place becomes another byte, or one is added in front of them
+-- held, notes this of it, and may draw numbers from a base on; or the next character on its way to it is lost, the one
+-- at a place becomes another byte, or one is added in front of them
 pub data Kind : Type 0 where
   Did : (doing : Doing) → Kind
-  Started : (found : List (ℕ × Spooled)) (base : ℕ) → Kind
+  Started : (note : Happening) (base : ℕ) → Kind
   Lost : Kind
   Changed : (place byte : ℕ) → Kind
   Added : (byte : ℕ) → Kind
@@ -61,7 +62,7 @@ act_of_doing (Says what) = None
 -- what it is on the line
 abbrev pub act_of : Kind → Option Act
 act_of (Did doing) = act_of_doing doing
-act_of (Started found base) = Some PowerLoss
+act_of (Started note base) = Some PowerLoss
 act_of Lost = Some Lose
 act_of (Changed place byte) = Some (Change place byte)
 act_of (Added byte) = Some (Add byte)
@@ -123,7 +124,7 @@ places_with arrived (Says what) places = places
 abbrev pub run_after : EndPlan → List Arrival → Kind → Run → Run
 run_after plan arrived (Did doing) run =
     record run { doings = doing ∷ run.doings; places = places_with arrived doing run.places }
-run_after plan arrived (Started found base) run = record {
+run_after plan arrived (Started note base) run = record {
   base = base;
   doings = [];
   places = [];
@@ -169,12 +170,13 @@ pub record IsHigher (plan : EndPlan) (run : Run) (base : ℕ) : Type 0 where
 
 abbrev pub MayMove : EndPlan → List Character → Run → Kind → Type 0
 MayMove plan way run (Did doing) = IsLawful plan run.base run.doings doing × IsOnWay way doing
-MayMove plan way run (Started found base) = IsHigher plan run base
+MayMove plan way run (Started note base) = IsStartOf plan.side note base × IsHigher plan run base
 MayMove plan way run Lost = Unit {0}
 MayMove plan way run (Changed place byte) = Unit {0}
 MayMove plan way run (Added byte) = Unit {0}
 
--- each end keeps its law over its own doings, and draws numbers above all old ones at each start
+-- each end keeps its law over its own doings, and notes each start as its own and draws numbers above all old ones
+-- there
 abbrev pub KeepLaws : LinePlans → List Move → Type 0
 KeepLaws plans [] = Unit {0}
 KeepLaws plans (move ∷ before) =
@@ -191,7 +193,7 @@ IsTimelyDoing moment (Says what) = Unit {0}
 
 abbrev pub IsTimely : ℕ → Kind → Type 0
 IsTimely moment (Did doing) = IsTimelyDoing moment doing
-IsTimely moment (Started found base) = Unit {0}
+IsTimely moment (Started note base) = Unit {0}
 IsTimely moment Lost = Unit {0}
 IsTimely moment (Changed place byte) = Unit {0}
 IsTimely moment (Added byte) = Unit {0}

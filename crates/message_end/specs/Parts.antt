@@ -1,12 +1,11 @@
 -- A step of an end that keeps a state of its own beside the core, as its parts, one after the other.
-use Rattle.std.specs.Prelude.{◌≡◌, ℕ, List, [], ◌∷◌, Option, Some, Result, Ok, Err}
+use Rattle.std.specs.Prelude.{◌≡◌, ℕ, false, List, [], ◌∷◌, Option, Some, Result, Ok, Err}
 use Rattle.message_flow.specs.declared.step.Note.{Note}
 use Rattle.message_flow.specs.declared.step.StepOut.{StepOut}
 use Rattle.trace_log.specs.Log.{Happening}
-use Rattle.trace_log.specs.Names.{Spooled}
 use Rattle.trace_log.specs.Text.{printed_note}
 use Rattle.message_end.specs.declared.end.Stop.{Stop}
-use Rattle.message_end.specs.declared.end.Stop.TheVariants.{DiskFailed, NoMemory, NumbersSpent}
+use Rattle.message_end.specs.declared.end.Stop.TheVariants.{DiskFailed, Full, NoMemory, NumbersSpent}
 use Rattle.message_end.specs.Core.{Command, EndView, Step, Went, and_then, at_first, carried, carry}
 use Rattle.message_end.specs.Core.Command.{CloseStep}
 use Rattle.message_end.specs.Core.Went.{Goes, Spent}
@@ -15,8 +14,8 @@ use Rattle.message_end.specs.Duties.{Duty, all_done}
 use Rattle.message_end.specs.Ends.{Input, Machine, none_asked}
 use Rattle.message_end.specs.History.{IsHistoryOf}
 use Rattle.message_end.specs.Laws.{new_end}
-use Rattle.message_end.specs.Log.{start_of}
 use Rattle.message_end.specs.Plan.{EndPlan}
+use Rattle.message_end.specs.Starts.{bare_start}
 use Rattle.transact.specs.Numbers.{NumbersView}
 
 -- the core of an end, and what it keeps beside it
@@ -86,13 +85,17 @@ after_parts say (part ∷ parts) step =
 
 -- ---- a node as an end
 
--- a start with these numbers, which finds these messages stored
-abbrev pub started : {S K : Type 0} → EndPlan → S → List (ℕ × Spooled) → NumbersView → Step (Node S K) Happening
-started plan own found numbers = record {
+-- a start with these numbers, which is noted so
+abbrev pub started : {S K : Type 0} → EndPlan → S → Happening → NumbersView → Step (Node S K) Happening
+started plan own note numbers = record {
   next = record { own = own; core = new_end plan numbers };
-  notes = start_of plan.side found numbers.next ∷ [];
+  notes = note ∷ [];
   written = [];
 }
+
+-- one without a file
+abbrev pub bare_started : {S K : Type 0} → EndPlan → S → NumbersView → Step (Node S K) Happening
+bare_started plan own numbers = started plan own (bare_start plan.side numbers.next) numbers
 
 -- what is done in each state: the plan of its end, what is kept beside the core when it starts anew, and the parts of a
 -- step
@@ -101,14 +104,15 @@ pub record Design (S K C : Type 0) : Type 0 where
   pub again : S → S
   pub parts : Input C → ℕ → List (Part S K)
 
--- a start anew goes on with the numbers that are left. There is no disk
+-- a start anew goes on with the numbers that are left. There is no disk, and no store that could be full
 abbrev pub machine_of : {S K C : Type 0} → Design S K C → Machine (Node S K) C
 machine_of design = record {
   act = λ s input now. after_parts Some (design.parts input now) (at_first s);
-  restart = λ s now. Goes (started (design.plan s.own) (design.again s.own) [] s.core.numbers);
+  restart = λ s now. Goes (bare_started (design.plan s.own) (design.again s.own) s.core.numbers);
   line = λ s. s.core.line;
   stops = λ s input now. [];
   start_stops = [];
+  fills = λ s input now. false;
   asks = λ s input now. none_asked;
   start_asks = none_asked;
   losses = λ s input now. [];
@@ -128,10 +132,11 @@ pub record Did
 abbrev pub on_the_way : {S : Type 0} → S → StepOut → Step S Note
 on_the_way s out = record { next = s; notes = out.notes; written = out.line.items }
 
--- unless memory runs out, this is what comes of it. No part of a step asks a disk
+-- unless memory runs out, this is what comes of it. No part of a step asks a disk or a store
 abbrev pub ComesTo : {A S : Type 0} → Went S Note → S → StepOut → Result A Stop → Type 0
 ComesTo went new out (Ok done) = went ≡ Goes (on_the_way new out)
 ComesTo went new out (Err NumbersSpent) = went ≡ Spent (on_the_way new out)
+ComesTo went new out (Err Full) = ⊥
 ComesTo went new out (Err DiskFailed) = ⊥
 ComesTo went new out (Err NoMemory) = Unit {0}
 

@@ -35,6 +35,8 @@ pub enum Stop {
     NoMemory,
     /// A number must be drawn, and all are drawn.
     NumbersSpent,
+    /// The end's own store has no room for what a step must put there. A core has none.
+    Full,
     /// A call of its disk failed. A core has none.
     DiskFailed,
 }

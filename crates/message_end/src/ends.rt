@@ -102,7 +102,7 @@ pub trait End: Drop {
         requires now { now < 2 ^ 62 }
         requires sound { sound self.old }
         requires out { IsEmpty out.old }
-        ensures start { Leaves machine.start_stops (anew self.old choice now) (means self.new) out.new result }
+        ensures start { Leaves machine.start_stops false (anew self.old choice now) (means self.new) out.new result }
         ensures whole { IsNotStopped result }
         ensures planned { OnOk result (planned self.new ≡ calls_left machine (means self.new)) }
         ensures going { OnOk result (stopped self.new ≡ false) }
@@ -122,6 +122,7 @@ pub trait End: Drop {
         requires out { IsEmpty out.old }
         ensures step { Leaves
             (machine.stops (means self.old) (input_of input.entry) now)
+            (machine.fills (means self.old) (input_of input.entry) now)
             (machine.act (means self.old) (input_of input.entry) now)
             (means self.new)
             out.new

@@ -12,7 +12,7 @@ use Rattle.trace_log.specs.Log.Happening.{EquipmentStarted, HostStarted, Sent, R
 
 abbrev pub is_start : Happening → Bool
 is_start (EquipmentStarted found base) = true
-is_start HostStarted = true
+is_start (HostStarted journal) = true
 is_start _ = false
 
 abbrev pub starts : Side → Entry → Bool

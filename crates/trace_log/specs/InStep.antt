@@ -10,7 +10,7 @@ abbrev pub noted_in_step : List Happening → List Happening
 noted_in_step [] = []
 noted_in_step (StepEnded ∷ before) = []
 noted_in_step (EquipmentStarted found base ∷ before) = []
-noted_in_step (HostStarted ∷ before) = []
+noted_in_step (HostStarted journal ∷ before) = []
 noted_in_step (what ∷ before) = what ∷ noted_in_step before
 
 -- the messages received among these

@@ -10,7 +10,7 @@ use Rattle.trace_log.specs.declared.names.CommsName.{CommsName}
 use Rattle.trace_log.specs.declared.names.ControlName.{ControlName}
 use Rattle.trace_log.specs.declared.names.Name.{Name}
 use Rattle.trace_log.specs.declared.names.Title.{Title}
-use Rattle.trace_log.specs.Names.{Spooled}
+use Rattle.trace_log.specs.Names.{KeptPrimary, Record, Spooled}
 
 -- the message that a block carries alone (SEMI E4, block)
 abbrev pub message_of : BlockView → Message
@@ -28,12 +28,20 @@ pub data Past : Type 0 where
   Commanded : (command : ToolCommand) → Past
   Asked : (request : Message) → Past
 
--- what an end notes (this profile); each is one line of the trace, but `Recorded` and `StepEnded`, which print none
+-- what a host finds at a start in its journal, each record with its number, and the first number that it may draw
+pub record Journal : Type 0 where
+  pub found : List (ℕ × Record)
+  pub base : ℕ
+
+-- what an end notes (this profile); each is one line of the trace, but `Recorded` and `StepEnded`, which print none,
+-- and `Setup` where nothing was kept
 pub data Happening : Type 0 where
   -- a start; of the equipment's, the messages that its spool holds, each with its number, and the first number that it
-  -- may draw
+  -- may draw; of the host's, its journal, where it has one
   EquipmentStarted : (found : List (ℕ × Spooled)) (base : ℕ) → Happening
-  HostStarted : Happening
+  HostStarted : (journal : Option Journal) → Happening
+  -- what the equipment finds kept of its setup at a start, the oldest first; None where its file has no room for that
+  Setup : (found : Option (List KeptPrimary)) → Happening
   -- power was lost; the peer has closed the connection
   Power : Happening
   Closed : Happening
@@ -53,13 +61,20 @@ pub data Happening : Type 0 where
   Carried : (rcmd : List ℕ) → Happening
   Display : (tid : ℕ) (text : List ℕ) → Happening
   Refused : Happening
-  -- before and after a message is put into the spool, and before and after one is removed; a message of the spool was
-  -- read and goes out next, with these system bytes
+  -- before and after a message is put into the spool, and before and after one is removed, with the message that is to
+  -- be put in its place where it is overwritten; a message of the spool was read and goes out next, with these system
+  -- bytes
   Storing : (number : ℕ) (message : Spooled) → Happening
   Stored : (number : ℕ) → Happening
-  Leaving : (number : ℕ) (cause : Cause) → Happening
+  Leaving : (number : ℕ) (cause : Cause) (room_for : Option Spooled) → Happening
   Gone : (number : ℕ) → Happening
   Try : (number system : ℕ) → Happening
+  -- before and after a primary that was accepted is kept with the setup; before and after a message that was delivered
+  -- is put into the journal
+  Keeping : (primary : KeptPrimary) → Happening
+  Kept : (primary : KeptPrimary) → Happening
+  Listing : (number : ℕ) (listed : Record) → Happening
+  Listed : (number : ℕ) (listed : Record) → Happening
   -- what a block that arrived was, where it is no part of a message; T4 has dropped the message of this last block
   Duplicate : (header : Header) → Happening
   Unexpected : (header : Header) → Happening
@@ -86,7 +101,7 @@ pub data Happening : Type 0 where
 -- a line that stands before a change of the spool's list
 abbrev pub is_before_change : Happening → Bool
 is_before_change (Storing number message) = true
-is_before_change (Leaving number cause) = true
+is_before_change (Leaving number cause room_for) = true
 is_before_change _ = false
 
 -- an entry of a log, with its moment in milliseconds: what an end has noted; the characters of a block that are no

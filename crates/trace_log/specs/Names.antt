@@ -1,5 +1,5 @@
 -- How messages and states are named in a log (this profile).
-use Rattle.std.specs.Prelude.{ℕ, true, List, codes, ◌++◌}
+use Rattle.std.specs.Prelude.{ℕ, true, false, List, codes, ◌++◌}
 use Rattle.std.specs.Int.{w32, to_be_bytes}
 use Rattle.hex.specs.Hex.{encode_upper}
 use Rattle.block_codec.specs.declared.header.Header.{Header}
@@ -20,12 +20,31 @@ pub record Spooled : Type 0 where
   pub function : ℕ
   pub body : List ℕ
 
--- the names of a message, of a spooled one, and of the message of a block
+-- a message as a journal lists it, with its system bytes; it is named as one whose reply is awaited, whatever it had
+pub record Record : Type 0 where
+  pub stream : ℕ
+  pub function : ℕ
+  pub system : ℕ
+  pub body : List ℕ
+
+-- a primary of the host as the setup keeps it, whether its reply was awaited or not
+pub record KeptPrimary : Type 0 where
+  pub stream : ℕ
+  pub function : ℕ
+  pub body : List ℕ
+
+-- the names of a message, of a spooled one, of a record, of a primary that is kept, and of the message of a block
 abbrev pub message_name : Message → Name
 message_name message = record { stream = message.stream; function = message.function; wait = message.wait }
 
 abbrev pub spooled_name : Spooled → Name
 spooled_name message = record { stream = message.stream; function = message.function; wait = true }
+
+abbrev pub record_name : Record → Name
+record_name listed = record { stream = listed.stream; function = listed.function; wait = true }
+
+abbrev pub kept_name : KeptPrimary → Name
+kept_name primary = record { stream = primary.stream; function = primary.function; wait = false }
 
 abbrev pub header_name : Header → Name
 header_name header = record { stream = header.stream; function = header.function; wait = header.wait }

@@ -12,8 +12,9 @@ use Rattle.message_flow.specs.declared.step.Note.{Note}
 use Rattle.short_text.specs.Shown.{shown_text}
 use Rattle.trace_log.specs.Log.{Entry, Happening, is_before_change}
 use Rattle.trace_log.specs.Log.Entry.{Noted, Slipped, Ended}
-use Rattle.trace_log.specs.Log.Happening.{EquipmentStarted, HostStarted, Power, Closed, Sent, Received, Wrote, Comms, Control, Spool, Set, Event, Alarm, Carried, Display, Refused, Storing, Stored, Leaving, Gone, Try, Duplicate, Unexpected, Foreign, TooLongBlock, Crowded, DroppedByT4, Failed, TimedOut, Stranger, Dropped, Denied, Discarded, TooLong, Full, Recorded, StepEnded}
-use Rattle.trace_log.specs.Names.{Spooled, cause_text, comms_text, control_text, name_text, spooled_name, system_text, title_of, title_text}
+use Rattle.trace_log.specs.Log.Happening.{EquipmentStarted, HostStarted, Setup, Power, Closed, Sent, Received, Wrote, Comms, Control, Spool, Set, Event, Alarm, Carried, Display, Refused, Storing, Stored, Leaving, Gone, Try, Keeping, Kept, Listing, Listed, Duplicate, Unexpected, Foreign, TooLongBlock, Crowded, DroppedByT4, Failed, TimedOut, Stranger, Dropped, Denied, Discarded, TooLong, Full, Recorded, StepEnded}
+use Rattle.trace_log.specs.declared.names.Cause.{Cause}
+use Rattle.trace_log.specs.Names.{Spooled, cause_text, comms_text, control_text, kept_name, name_text, record_name, spooled_name, system_text, title_of, title_text}
 
 -- the moment and the end
 abbrev pub head_text : ℕ → Side → List ℕ
@@ -35,10 +36,16 @@ set_text set = if set then codes "set" else codes "clear"
 abbrev pub active_text : Bool → List ℕ
 active_text active = if active then codes "ACTIVE" else codes "INACTIVE"
 
+-- a start that finds so many messages, with the first number that the end may draw
+abbrev pub start_text : ℕ → ℕ → List ℕ
+start_text len base = codes "start len=" ++ decimal len ++ codes " base=" ++ decimal base
+
 abbrev pub happening_text : Happening → List ℕ
-happening_text (EquipmentStarted found base) =
-    codes "start len=" ++ decimal (length found) ++ codes " base=" ++ decimal base
-happening_text HostStarted = codes "start"
+happening_text (EquipmentStarted found base) = start_text (length found) base
+happening_text (HostStarted None) = codes "start"
+happening_text (HostStarted (Some journal)) = start_text (length journal.found) journal.base
+happening_text (Setup None) = []
+happening_text (Setup (Some found)) = codes "setup " ++ decimal (length found)
 happening_text Power = codes "power"
 happening_text Closed = codes "closed"
 happening_text (Sent message) = codes "sent " ++ message_text message
@@ -56,9 +63,14 @@ happening_text Refused = codes "refused"
 happening_text (Storing number message) =
     codes "storing " ++ decimal number ++ codes " " ++ name_text (spooled_name message)
 happening_text (Stored number) = codes "stored " ++ decimal number
-happening_text (Leaving number cause) = codes "leaving " ++ decimal number ++ codes " " ++ cause_text cause
+happening_text (Leaving number cause room_for) = codes "leaving " ++ decimal number ++ codes " " ++ cause_text cause
 happening_text (Gone number) = codes "gone " ++ decimal number
 happening_text (Try number system) = codes "try " ++ decimal number ++ codes " " ++ system_text system
+happening_text (Keeping primary) = codes "keeping " ++ name_text (kept_name primary)
+happening_text (Kept primary) = codes "kept " ++ name_text (kept_name primary)
+happening_text (Listing number listed) =
+    codes "listing " ++ decimal number ++ codes " " ++ name_text (record_name listed)
+happening_text (Listed number listed) = codes "listed " ++ decimal number
 happening_text (Duplicate header) = codes "duplicate " ++ header_text header
 happening_text (Unexpected header) = codes "unexpected " ++ header_text header
 happening_text (Foreign header) = codes "foreign " ++ header_text header
@@ -93,8 +105,14 @@ abbrev pub IsStoringNote : ℕ → ℕ → ℕ → Note → Type 0
 IsStoringNote number stream function note =
     (body : List ℕ) → note ≡ note_of (Storing number (record { stream = stream; function = function; body = body }))
 
--- the note that is printed; what is recorded alone, and the end of a step, has none
+-- that of a message that leaves the spool, whatever is to be put in its place
+abbrev pub IsLeavingNote : ℕ → Cause → Note → Type 0
+IsLeavingNote number cause note = (room_for : Option Spooled) → note ≡ note_of (Leaving number cause room_for)
+
+-- the note that is printed; what is recorded alone, a setup in which nothing is kept, and the end of a step have none
 abbrev pub printed_note : Happening → Option Note
+printed_note (Setup None) = None
+printed_note (Setup (Some [])) = None
 printed_note (Recorded past) = None
 printed_note StepEnded = None
 printed_note what = Some (note_of what)

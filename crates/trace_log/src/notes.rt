@@ -1,11 +1,11 @@
 //! What an end notes, as one line without its moment and its end.
 
-ghost use Rattle.std.specs.Prelude.{◌≡◌, ◌≤◌, ◌++◌, true, length, decimal, IfOk};
+ghost use Rattle.std.specs.Prelude.{◌≡◌, ◌≤◌, ◌++◌, true, None, length, decimal, IfOk};
 ghost use Rattle.arrayvec.specs.ArrayVec.{array_vec_len};
 ghost use Rattle.block_codec.specs.Header.{Fits};
-ghost use Rattle.trace_log.specs.Log.Happening.{HostStarted, Power, Closed, Sent, Received, Wrote, Comms, Control, Spool, Set, Event, Alarm, Carried, Display, Refused, Stored, Leaving, Gone, Try, Duplicate, Unexpected, Foreign, TooLongBlock, Crowded, DroppedByT4, Failed, TimedOut, Stranger, Dropped, Denied, Discarded, TooLong, Full};
+ghost use Rattle.trace_log.specs.Log.Happening.{HostStarted, Power, Closed, Sent, Received, Wrote, Comms, Control, Spool, Set, Event, Alarm, Carried, Display, Refused, Stored, Gone, Try, Duplicate, Unexpected, Foreign, TooLongBlock, Crowded, DroppedByT4, Failed, TimedOut, Stranger, Dropped, Denied, Discarded, TooLong, Full};
 ghost use Rattle.trace_log.specs.Names.{name_text, title_text};
-ghost use Rattle.trace_log.specs.Text.{IsStartNote, IsStoringNote, body_text, header_text, message_text, note_of, plain};
+ghost use Rattle.trace_log.specs.Text.{IsLeavingNote, IsStartNote, IsStoringNote, body_text, header_text, message_text, note_of, plain};
 
 use crate::names::{
     Cause, CommsName, ControlName, Name, Title, cause_word, comms_word, control_word, put_system,
@@ -34,9 +34,9 @@ pub fn equipment_started_note(alloc: Global, len: u64, base: u64) -> Result<Note
     plain_note(alloc, &head)
 }
 
-/// A start of the host.
+/// A start of a host without a journal.
 pub fn host_started_note(alloc: Global) -> Result<Note, NoMemory>
-    ensures { IfOk result (λ note. note ≡ note_of HostStarted) }
+    ensures { IfOk result (λ note. note ≡ note_of (HostStarted None)) }
 {
     plain_note(alloc, b"start")
 }
@@ -188,7 +188,7 @@ pub fn stored_note(alloc: Global, number: u64) -> Result<Note, NoMemory>
 
 /// Before a message is removed from the spool; by a purge, before all are, and this is the first of them.
 pub fn leaving_note(alloc: Global, number: u64, cause: Cause) -> Result<Note, NoMemory>
-    ensures { IfOk result (λ note. note ≡ note_of (Leaving number cause)) }
+    ensures { IfOk result (IsLeavingNote number cause) }
 {
     let mut head = Head::new();
     put(&mut head, b"leaving ");
