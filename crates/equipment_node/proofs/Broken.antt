@@ -51,12 +51,11 @@ module _ {D : Type 0} (members : disk.Ghosts D) where
   pub breaks-behind :
       (a b c : D) (one two : List (Loss EquipmentView)) (notes : List Note) → IsGoingDisk (members.health a)
       → Passes members a one b → BreaksAt members b two c notes → BreaksAt members a (one ++ two) c notes
-  breaks-behind a b c one two notes on first breaks t new images stopped room =
-      broken-behind one two (members.health a) (members.health b) t notes (first on)
-      (breaks t new images stopped room)
+  breaks-behind a b c one two notes on first breaks t new images stopped =
+      broken-behind one two (members.health a) (members.health b) t notes (first on) (breaks t new images stopped)
 
   pub breaks-before :
       (a c : D) (one two : List (Loss EquipmentView)) (notes : List Note) → BreaksAt members a one c notes
       → BreaksAt members a (one ++ two) c notes
-  breaks-before a c one two notes breaks t new images stopped room =
-      broken-before one two (members.health a).stop_in t notes (breaks t new images stopped room)
+  breaks-before a c one two notes breaks t new images stopped =
+      broken-before one two (members.health a).stop_in t notes (breaks t new images stopped)

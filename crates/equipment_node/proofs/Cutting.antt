@@ -6,11 +6,6 @@ use Rattle.gem_spool.specs.declared.works.Work.{Work}
 use Rattle.message_flow.specs.declared.step.Note.{Note}
 use Rattle.message_end.specs.Ends.{IsFront, printed}
 use Rattle.trace_log.specs.Log.{Happening, is_before_change}
-use Rattle.trace_log.specs.Log.Happening.{EquipmentStarted, HostStarted, Power, Closed, Sent, Received, Wrote, Comms}
-use Rattle.trace_log.specs.Log.Happening.{Control, Spool, Set, Event, Alarm, Carried, Display, Refused, Storing, Stored}
-use Rattle.trace_log.specs.Log.Happening.{Leaving, Gone, Try, Duplicate, Unexpected, Foreign, TooLongBlock, Crowded}
-use Rattle.trace_log.specs.Log.Happening.{DroppedByT4, Failed, TimedOut, Stranger, Dropped, Denied, Discarded, TooLong}
-use Rattle.trace_log.specs.Log.Happening.{Full, Recorded, StepEnded}
 use Rattle.trace_log.specs.Text.{note_of, printed_note}
 use Rattle.equipment_node.specs.Cut.{cut_at, noted_to}
 use Rattle.spool_works.specs.DiskWorks.{DiskWork, behind_change, fronts_of, up_to_change}
@@ -25,43 +20,11 @@ IsTold what =
     ⊎ ((printed_note what ≡ Some (note_of what)) × ((note_of what).before_change ≡ is_before_change what))
 
 pub told : (what : Happening) → IsTold what
-told (EquipmentStarted found base) = inr (refl, refl)
-told HostStarted = inr (refl, refl)
-told Power = inr (refl, refl)
-told Closed = inr (refl, refl)
-told (Sent message) = inr (refl, refl)
-told (Received message) = inr (refl, refl)
-told (Wrote characters) = inr (refl, refl)
-told (Comms state) = inr (refl, refl)
-told (Control state) = inr (refl, refl)
-told (Spool active) = inr (refl, refl)
-told (Set vid) = inr (refl, refl)
-told (Event ceid dataid) = inr (refl, refl)
-told (Alarm alid set) = inr (refl, refl)
-told (Carried rcmd) = inr (refl, refl)
-told (Display tid text) = inr (refl, refl)
-told Refused = inr (refl, refl)
-told (Storing number message) = inr (refl, refl)
-told (Stored number) = inr (refl, refl)
-told (Leaving number cause) = inr (refl, refl)
-told (Gone number) = inr (refl, refl)
-told (Try number system) = inr (refl, refl)
-told (Duplicate header) = inr (refl, refl)
-told (Unexpected header) = inr (refl, refl)
-told (Foreign header) = inr (refl, refl)
-told (TooLongBlock header) = inr (refl, refl)
-told (Crowded header) = inr (refl, refl)
-told (DroppedByT4 header) = inr (refl, refl)
-told (Failed title) = inr (refl, refl)
-told (TimedOut title) = inr (refl, refl)
-told (Stranger title) = inr (refl, refl)
-told (Dropped name) = inr (refl, refl)
-told (Denied name) = inr (refl, refl)
-told (Discarded name) = inr (refl, refl)
-told (TooLong name) = inr (refl, refl)
-told (Full name) = inr (refl, refl)
-told (Recorded past) = inl (refl, refl)
-told StepEnded = inl (refl, refl)
+told (Happening.Setup None) = inl (refl, refl)
+told (Happening.Setup (Some [])) = inl (refl, refl)
+told (Happening.Recorded past) = inl (refl, refl)
+told Happening.StepEnded = inl (refl, refl)
+told what = inr (refl, refl)
 
 -- ---- up to one of them
 

@@ -166,5 +166,6 @@ module _ (input : Input ToolCommand) (now : ℕ) (old mid : Node OwnView Kind) (
               file = refl;
               notes = is.notes;
             }
+        stops-of stop.Full reached = reached
         stops-of stop.DiskFailed reached = reached
         stops-of stop.NoMemory reached = tt

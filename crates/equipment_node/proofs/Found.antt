@@ -4,9 +4,9 @@ use Rattle.std.proofs.lemmas.List.{take_all}
 use Rattle.std.specs.List.{slice_get}
 use Rattle.block_codec.specs.Protocol.{longest_text}
 use Rattle.trace_log.specs.Names.{Spooled}
-use Rattle.spool_slots.specs.File.{SpoolFile, StandsFor, file_in}
-use Rattle.spool_slots.specs.Slot.{Message}
-use Rattle.spool_slots.proofs.Contents.{IsHeld, first_held}
+use Rattle.spool_file.specs.File.{SpoolFile, StandsFor, file_in}
+use Rattle.spool_file.specs.Slot.{Message}
+use Rattle.spool_file.proofs.Contents.{IsHeld, first_held}
 
 take-short : (n : ℕ) (xs : List ℕ) → length (take n xs) ≤ n
 take-short zero xs = omega arith

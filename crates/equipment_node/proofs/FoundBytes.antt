@@ -2,10 +2,10 @@
 use Rattle.std.proofs.Common.{◌≡◌, ap, arith, ◌<◌, ◌==◌, ℕ, List, [], ◌∷◌, None}
 use Rattle.std.proofs.lemmas.List.Elements.{All-cons, All-nil}
 use Rattle.std.specs.List.{All}
-use Rattle.spool_slots.specs.File.{file_in, spool_break}
-use Rattle.spool_slots.specs.Slot.{Message}
-use Rattle.spool_slots.proofs.Areas.{Each}
-use Rattle.spool_slots.proofs.Contents.{IsHeld, IsOfBytes, each_held, each_of_bytes}
+use Rattle.spool_file.specs.File.{file_in, spool_break}
+use Rattle.spool_file.specs.Slot.{Message}
+use Rattle.spool_file.proofs.Areas.{Each}
+use Rattle.spool_file.proofs.Contents.{IsHeld, IsOfBytes, each_held, each_of_bytes}
 use Rattle.spool_works.specs.Found.{spooled_of}
 use Rattle.tool_law.specs.Sound.{AllCanBeSent, CanBeSent}
 

@@ -12,8 +12,7 @@ use Rattle.disk_base.proofs.Moments.{only_now}
 use Rattle.disk_base.specs.contracts.mem_disk.MemDiskDisk.TheImpl.{ghosts}
 use Rattle.gem_spool.specs.declared.count.Count.{Count}
 use Rattle.message_flow.specs.declared.step.StepOut.{StepOut}
-use Rattle.spool_slots.specs.Changes.{Ends}
-use Rattle.spool_slots.specs.File.{SpoolFile, file_in}
+use Rattle.spool_file.specs.File.{Ends, SpoolFile, file_in}
 use Rattle.trace_log.specs.Log.{Happening}
 use Rattle.message_end.specs.declared.end.Stop.{Stop}
 use Rattle.message_end.specs.Core.{Went, at_first, step_in}
@@ -129,7 +128,7 @@ start-slots plan file = go (is_marked_out file.mark.value)
 -- it doesn't go on
 pub not-anew :
     (plan : EquipmentPlan) (went : Went EquipmentView Happening) (going : Option (Held DiskState)) → going ≡ None
-    → (out : StepOut) (why : Stop) → Leaves ([] ∷ []) went (state_in ghosts plan going) out (Err why)
+    → (out : StepOut) (why : Stop) → Leaves ([] ∷ []) false went (state_in ghosts plan going) out (Err why)
     → IsNotStopped {R = Unit {0}} (Err why) → StartsAnew ghosts plan went going out (Err why)
 not-anew plan went going gone out why leaves whole = record {
   start = leaves;

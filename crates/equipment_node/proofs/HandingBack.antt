@@ -42,6 +42,7 @@ use Rattle.equipment_node.specs.StartOver.{StartsWith}
 pub reached-not-failed :
     (went : Went (Node OwnView Kind) Note) (new : Node OwnView Kind) (out : StepOut) (why : Stop)
     → IsReached {A = Unit {0}} went new out (Err why) → why ≢ stop.DiskFailed
+reached-not-failed went new out stop.Full reached is = absurd reached
 reached-not-failed went new out stop.DiskFailed reached is = absurd reached
 reached-not-failed went new out stop.NoMemory reached is = cc
 reached-not-failed went new out stop.NumbersSpent reached is = cc

@@ -13,8 +13,8 @@ use Rattle.gem_spool.specs.declared.works.Work.{Work}
 use Rattle.gem_spool.specs.Standing.{Standing, Stands}
 use Rattle.message_flow.specs.declared.step.Note.{Note}
 use Rattle.message_flow.specs.declared.step.StepOut.{StepOut}
-use Rattle.spool_slots.specs.File.{SpoolFile, file_in}
-use Rattle.spool_slots.specs.Slot.{Message}
+use Rattle.spool_file.specs.File.{SpoolFile, file_in}
+use Rattle.spool_file.specs.Slot.{Message}
 use Rattle.spool_slots.specs.Spool.{SpoolView}
 use Rattle.trace_log.specs.Log.{Happening}
 use Rattle.trace_log.specs.Names.{Spooled}
@@ -40,7 +40,7 @@ use Rattle.tool_step.specs.Spooling.{end_of_spooling, taking_turn, unload_part}
 use Rattle.tool_step.specs.Step.{last_parts, offer}
 use Rattle.equipment_node.specs.Stepping.{IsClear, IsTold}
 use Rattle.tool_step.specs.Taking.{taking}
-use Rattle.spool_slots.proofs.Contents.{IsHeld}
+use Rattle.spool_file.proofs.Contents.{IsHeld}
 use Rattle.equipment_node.proofs.Found.{oldest-good}
 use Rattle.equipment_node.proofs.OnDisk.{kept-of}
 use Rattle.equipment_node.proofs.Staying.{HasRested, last-rested}

@@ -9,7 +9,7 @@ use Rattle.gem_spool.specs.declared.works.Work.{Work}
 use Rattle.gem_spool.specs.Standing.{Standing, Stands, count_in, count_of}
 use Rattle.gem_spool.specs.Works.{counts_after, reserved as marked, standing_after, standings_after}
 use Rattle.gem_spool.proofs.Doing.{counts_keep}
-use Rattle.spool_slots.specs.File.{SpoolFile, StandsFor}
+use Rattle.spool_file.specs.File.{SpoolFile, StandsFor}
 use Rattle.spool_slots.specs.Spool.{SpoolView}
 use Rattle.spool_slots.specs.declared.states.Spent.{Spent as Device}
 use Rattle.trace_log.specs.Log.{Happening}

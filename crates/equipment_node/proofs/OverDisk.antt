@@ -11,7 +11,7 @@ use Rattle.gem_spool.specs.declared.works.Work.{Work}
 use Rattle.gem_spool.specs.Standing.{Standing, Stands, count_of}
 use Rattle.gem_spool.specs.Works.{HasCarried, counts_after, standings_after}
 use Rattle.message_flow.specs.declared.step.StepOut.{StepOut}
-use Rattle.spool_slots.specs.File.{SpoolFile, StandsFor}
+use Rattle.spool_file.specs.File.{SpoolFile, StandsFor}
 use Rattle.spool_slots.specs.declared.states.Spent.{Spent as Device}
 use Rattle.trace_log.specs.declared.commands.ToolCommand.{ToolCommand}
 use Rattle.trace_log.specs.Log.{Happening}

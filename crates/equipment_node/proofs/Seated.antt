@@ -1,12 +1,12 @@
 -- That the spool in hand tells its state, and what becomes of it in a step and at a start.
-use Rattle.std.proofs.Common.{◌≡◌, sym, ap, subst, ◌∙◌, ℕ, Bool, true, [], ◌∷◌, Option, Some, if◌then◌else◌}
+use Rattle.std.proofs.Common.{◌≡◌, refl, sym, ap, subst, ◌∙◌, ℕ, Bool, true, false, [], ◌∷◌, Option, Some, if◌then◌else◌}
 use Rattle.std.specs.Prelude.{Err}
 use Rattle.disk_base.specs.Story.{Story}
 use Rattle.disk_base.specs.declared.disk.Disk as disk
 use Rattle.gem_spool.specs.declared.spool.GemSpool.{GemSpool}
 use Rattle.gem_spool.specs.Standing.{file_told, standing_of}
 use Rattle.message_flow.specs.declared.step.StepOut.{StepOut}
-use Rattle.spool_slots.specs.File.{SpoolFile, file_in}
+use Rattle.spool_file.specs.File.{SpoolFile, file_in}
 use Rattle.spool_slots.specs.Spool.{known_of}
 use Rattle.trace_log.specs.declared.commands.ToolCommand.{ToolCommand}
 use Rattle.trace_log.specs.Log.{Happening}
@@ -117,10 +117,10 @@ pub stops-by :
     {D : Type 0} (members : disk.Ghosts D) (s : EquipmentView) (input : Input ToolCommand) (now : ℕ)
     (node : Node OwnView Kind) (next : EquipmentView) (out : StepOut) (end : Ended D)
     → Steps members s input now node out (Err end)
-    → Leaves (stops s input now) (act s input now) next out (Err (stop_by end))
+    → Leaves (stops s input now) false (act s input now) next out (Err (stop_by end))
 stops-by members s input now node next out (ended.NoMemory spent) steps = steps.0
 stops-by members s input now node next out (ended.DiskFailed spent) steps = steps.0
-stops-by members s input now node next out (ended.NumbersSpent spent) steps = steps.0
+stops-by members s input now node next out (ended.NumbersSpent spent) steps = (steps.0, refl)
 
 -- ---- a start of an end
 
@@ -160,11 +160,12 @@ module _ {D : Type 0} (members : disk.Ghosts D) (plan : EquipmentPlan) (out : St
   -- nor over a device that tells its bytes
   pub begun-ends :
       (s : Story) (next : EquipmentView) (why : Starting D) → Begins members plan s out (Err why)
-      → Leaves ([] ∷ []) (starts plan (file_in s.now.bytes)) next out (Err (stop_at_start why))
+      → Leaves ([] ∷ []) false (starts plan (file_in s.now.bytes)) next out (Err (stop_at_start why))
   begun-ends s next (starting.NoMemory spent) is = is.0
   begun-ends s next (starting.NotSpool raw break) is = is.0.line
   begun-ends s next (starting.DiskFailed spent) is = is.0.line
-  begun-ends s next (starting.NumbersSpent spent) is = start-spent plan (file_in s.now.bytes) out is.1 is.0
+  begun-ends s next (starting.NumbersSpent spent) is =
+      (start-spent plan (file_in s.now.bytes) out is.1 is.0, refl)
 
 -- nor does its disk stop it
 pub start-whole : {D : Type 0} (R : Type 0) (why : Starting D) → IsNotStopped {R = R} (Err (stop_at_start why))

@@ -3,7 +3,7 @@ use Rattle.std.proofs.Common.{◌≡◌, sym, ap, subst, ◌∙◌, ◌⊎◌, i
 use Rattle.std.proofs.Common.{◌∷◌, length, length-append, Option, Some, None}
 use Rattle.std.specs.Prelude.{Result, Ok, Err}
 use Rattle.disk_base.specs.Calls.{DiskCall, Logs, sync_call, with_call}
-use Rattle.disk_base.specs.Faults.{DiskHealth, IsCrowded}
+use Rattle.disk_base.specs.Faults.{DiskHealth, IsLeftOut}
 use Rattle.disk_base.specs.Story.{Story, with_sync}
 use Rattle.disk_base.specs.declared.disk.Disk as disk
 use Rattle.disk_base.specs.declared.disk.DiskAnswer.{DiskAnswer}
@@ -13,9 +13,9 @@ use Rattle.gem_spool.specs.declared.spool.GemSpool.{GemSpool}
 use Rattle.gem_spool.specs.Spool.{ReservesFrom}
 use Rattle.gem_spool.specs.Standing.{Standing, Stands, standing_of}
 use Rattle.message_flow.specs.declared.step.StepOut.{StepOut}
+use Rattle.spool_file.specs.File.{SpoolFile, file_in, spool_break}
+use Rattle.spool_file.specs.Reads.{HasRead, recover_calls, start_look, start_looks}
 use Rattle.spool_slots.specs.Changes.{Recovers, Reserves, most_reads}
-use Rattle.spool_slots.specs.File.{SpoolFile, file_in, spool_break}
-use Rattle.spool_slots.specs.Reads.{HasRead, recover_calls, start_look, start_looks}
 use Rattle.spool_slots.specs.Spool.{SpoolView}
 use Rattle.spool_slots.specs.declared.states.Recovering.{Recovering}
 use Rattle.spool_slots.specs.declared.states.Recovering.TheVariants as recovering
@@ -97,7 +97,8 @@ module _ {D : Type 0} (members : disk.Ghosts D) where
 
     looks-or-sync :
         (spent : Device D) → Recovers members old (Err (recovering.Failed spent))
-        → Logs sync_call (IsCrowded (members.health old) 1 0) (members.calls old) (members.calls spent.disk) Failed
+        → Logs sync_call (IsLeftOut (members.health old) (members.health spent.disk) 0 0) (members.calls old)
+        (members.calls spent.disk) Failed
         ⊎ AreLooks (members.calls old) (members.calls spent.disk) (most_reads (members.size_is old))
     looks-or-sync spent (inl is, by) = inl is.calls
     looks-or-sync spent (inr is, by) =

@@ -29,7 +29,7 @@ use Rattle.spool_works.specs.declared.ended.Ended.TheVariants as ended
 use Rattle.tool_step.specs.declared.kind.Kind.{Kind}
 use Rattle.equipment_node.specs.Amid.{Carries, DoesLast, HasCut, IsBegun, IsBegunSpent, Opens, opened}
 use Rattle.equipment_node.specs.Breaking.{BreaksAt, BreaksBy, Passes}
-use Rattle.spool_works.specs.Breaking.{HasPassed, HasRoomLeft, IsGoingDisk}
+use Rattle.spool_works.specs.Breaking.{HasPassed, IsGoingDisk}
 use Rattle.equipment_node.specs.Cut.{cut_at, noted_to}
 use Rattle.spool_works.specs.DiskWorks.{DiskWork, fronts_of, standings_behind}
 use Rattle.tool_step.specs.Disk.{read_works, reserve_works, standing_in, takes_up, works_behind}
@@ -50,7 +50,6 @@ use Rattle.spool_works.proofs.BrokenWorks.{read-left, reserve-left}
 use Rattle.equipment_node.proofs.Cutting.{change-front, cut-noted}
 use Rattle.equipment_node.proofs.Opened.{mark-failed}
 use Rattle.equipment_node.proofs.OverDisk.{done-standing, takes-settled}
-use Rattle.spool_works.proofs.RoomKept.{room-kept}
 use Rattle.equipment_node.proofs.StepCalls.{none-left, none-needed, none-owed}
 use Rattle.equipment_node.proofs.BreakPlaces.{broken-of, read_by, losses-read, losses-reserve, parted, taken, front-inj}
 use Rattle.equipment_node.proofs.BreakPlaces.{same-passed}
@@ -161,10 +160,9 @@ module _ {D : Type 0} (members : disk.Ghosts D) where
       subst
       (λ (works : List DiskWork). BreaksAt members g.spool.disk (reserve_losses s works) spent.disk notes)
       (sym (mark-failed members s g needs clear done.0))
-      (λ t new images stopped free.
+      (λ t new images stopped.
       broken-of s Reserve (standing_in s) [] (members.health g.spool.disk).stop_in t notes noted
-      (reserve-left members g.spool (standing_in s) spent told.0 t clear.stands told.1 new images goes
-      (room-kept (members.health g.spool.disk) (members.health spent.disk) 5 _ done.1.0.cause free) done))
+      (reserve-left members g.spool (standing_in s) spent told.0 t clear.stands told.1 new images goes stopped done))
 
   -- as the oldest message was read
   pub look-breaks :
@@ -173,11 +171,9 @@ module _ {D : Type 0} (members : disk.Ghosts D) where
       → HasLooked members v w k Failed → spent.disk ≡ w.disk → IsGoingDisk (members.health v.disk)
       → BreaksAt members v.disk (losses_of s st [] (ReadOldest ∷ []) front) spent.disk notes
   look-breaks s v w k spent st front notes stands told noted looked here goes =
-      λ t new images stopped free.
+      λ t new images stopped.
       broken-of s ReadOldest st front (members.health v.disk).stop_in t notes noted
-      (read-left members v st spent told.0 t stands told.1 new images goes
-      (room-kept (members.health v.disk) (members.health w.disk) 1 _ looked.cause
-      (subst (λ (d : D). HasRoomLeft (members.health d)) here free)) k w (sym here) looked)
+      (read-left members v st spent told.0 t stands told.1 new images goes stopped k w (sym here) looked)
 
   -- in one of the works, whatever comes behind them
   cut-breaks :
@@ -187,12 +183,12 @@ module _ {D : Type 0} (members : disk.Ghosts D) where
       → IsGoingDisk (members.health g.spool.disk)
       → BreaksAt members g.spool.disk (losses_of s st [] (map Change works ++ more) front) spent.disk after.notes
   cut-breaks s g works more st front out after spent stands told noted cut goes =
-      λ t new images stopped free.
+      λ t new images stopped.
       let one = cut.undone.failed in
       let xs = take cut.at works in
       let rest = drop (suc cut.at) works in
       let place =
-      works-break members spent t new images free xs g cut.undone.before one st told.0
+      works-break members spent t new images stopped xs g cut.undone.before one st told.0
       (record { stands = stands; told = told.1; goes = goes }) cut.undone.done cut.undone.fails in
       let loss = loss-of s xs rest one more st [] front place.call place.left place.is in
       let all = parted works cut.at one cut.undone.is in

@@ -1,5 +1,5 @@
 -- How a step over a disk in memory ends, and where a planned call has stopped the disk.
-use Rattle.std.proofs.Common.{◌≡◌, refl, sym, ap, subst, ◌∙◌, arith, zero, suc, ◌≤◌, ◌&&◌, nat_le, Bool, true, false, ℕ}
+use Rattle.std.proofs.Common.{◌≡◌, refl, sym, ap, subst, ◌∙◌, arith, zero, suc, ◌≤◌, nat_le, Bool, true, false, ℕ}
 use Rattle.std.proofs.Common.{List, [], ◌∷◌, length, Option, Some, None, is_some}
 use Rattle.std.proofs.lemmas.Bool.Decides.{nat_tests}
 use Rattle.std.specs.Prelude.{IfSome, slice_get, Err}
@@ -8,7 +8,7 @@ use Rattle.disk_base.specs.MemDisk.{DiskState, disk_health}
 use Rattle.disk_base.specs.contracts.mem_disk.MemDiskDisk.TheImpl.{ghosts}
 use Rattle.disk_base.specs.declared.cut.CutChoice.{CutChoice}
 use Rattle.message_flow.specs.declared.step.StepOut.{StepOut}
-use Rattle.spool_slots.specs.File.{SpoolFile}
+use Rattle.spool_file.specs.File.{SpoolFile}
 use Rattle.spool_slots.specs.declared.states.Spent.{Spent as Device}
 use Rattle.trace_log.specs.declared.commands.ToolCommand.{ToolCommand}
 use Rattle.trace_log.specs.Log.{Happening}
@@ -20,7 +20,7 @@ use Rattle.equipment_tables.specs.declared.plan.EquipmentPlan.{EquipmentPlan}
 use Rattle.spool_works.specs.declared.ended.Ended.{Ended}
 use Rattle.spool_works.specs.declared.ended.Ended.TheVariants as ended
 use Rattle.equipment_node.specs.Breaking.{BreaksAt, BreaksBy, HasBrokenAt, Passes}
-use Rattle.spool_works.specs.Breaking.{HasRoomLeft, IsGoingDisk, LeavesImages}
+use Rattle.spool_works.specs.Breaking.{IsGoingDisk, LeavesImages}
 use Rattle.tool_step.specs.Disk.{standing_in, works_of}
 use Rattle.equipment_node.specs.DiskCalls.{disk_held}
 use Rattle.tool_step.specs.End.{machine}
@@ -50,12 +50,6 @@ none-at (suc n) xs not = get-none xs n (go (nat_le (suc n) (length xs)) refl)
     go : (within : Bool) → nat_le (suc n) (length xs) ≡ within → length xs ≤ n
     go true e = absurd (not (omega arith, grind (arith, nat_tests, e)))
     go false e = grind (arith, nat_tests, e)
-
-three : (a b c : Bool) → (a && (b && c)) ≡ true → (a ≡ true) × (b ≡ true) × (c ≡ true)
-three true true true is = (refl, refl, refl)
-three true true false is = absurd (cc)
-three true false c is = absurd (cc)
-three false b c is = absurd (cc)
 
 module _ (plan : EquipmentPlan) (h : Held DiskState) (power : HasPower ghosts plan h) (input : Input ToolCommand)
     (now : ℕ) (out : StepOut)
@@ -164,24 +158,11 @@ module _ (plan : EquipmentPlan) (h : Held DiskState) (power : HasPower ghosts pl
         → BreaksAt ghosts h.spool.spool.disk some spent.disk out.notes)
       where
         abbrev is_stopped : Bool
-        is_stopped =
-            spent.disk.plan.stopped
-            && (nat_le 7 (disk_health spent.disk).calls && nat_le 4097 (disk_health spent.disk).room)
+        is_stopped = spent.disk.plan.stopped
 
         broken : is_stopped ≡ true → LeavesImages spent.disk.story
             → HasBrokenAt some call spent.disk.story out.notes
-        broken so images =
-            let is =
-            three spent.disk.plan.stopped (nat_le 7 (disk_health spent.disk).calls)
-            (nat_le 4097 (disk_health spent.disk).room) so in
-            breaks goes spent.disk.story refl images is.0
-            (room-left is.1 is.2)
-          where
-            room-left :
-                nat_le 7 (disk_health spent.disk).calls ≡ true → nat_le 4097 (disk_health spent.disk).room ≡ true
-                → HasRoomLeft (disk_health spent.disk)
-            room-left enough wide =
-                record { calls = grind (arith, nat_tests, enough); bytes = grind (arith, nat_tests, wide) }
+        broken so images = breaks goes spent.disk.story refl images so
 
         failed-ends :
             (after : ℕ) (is : Bool) → is_stopped ≡ is
@@ -245,9 +226,10 @@ module _ (plan : EquipmentPlan) (h : Held DiskState) (power : HasPower ghosts pl
 -- where it is told as want of memory it sends nothing, either
 pub told-leaves :
     (fronts : List (List Happening)) (went : Went EquipmentView Happening) (next : EquipmentView) (out : StepOut)
-    (is_lost : Bool) (why : Stop) → Leaves fronts went next out (Err why)
-    → Leaves fronts went next out (Err (stop_told is_lost why))
+    (is_lost : Bool) (why : Stop) → Leaves fronts false went next out (Err why)
+    → Leaves fronts false went next out (Err (stop_told is_lost why))
 told-leaves fronts went next out is_lost stop.NoMemory leaves = leaves
 told-leaves fronts went next out is_lost stop.NumbersSpent leaves = leaves
+told-leaves fronts went next out is_lost stop.Full leaves = leaves
 told-leaves fronts went next out true stop.DiskFailed leaves = leaves
 told-leaves fronts went next out false stop.DiskFailed leaves = leaves.quiet

@@ -8,10 +8,10 @@ use Rattle.disk_base.specs.declared.disk.Disk as disk
 use Rattle.gem_spool.specs.declared.spool.GemSpool.{GemSpool}
 use Rattle.gem_spool.specs.Standing.{file_told, standing_of}
 use Rattle.message_flow.specs.declared.step.StepOut.{StepOut}
+use Rattle.spool_file.specs.File.{SpoolFile, StandsFor, file_in, spool_break}
+use Rattle.spool_file.specs.declared.reading.NotSpool.{NotSpool}
 use Rattle.spool_slots.specs.Changes.{Recovers}
-use Rattle.spool_slots.specs.File.{SpoolFile, StandsFor, file_in, spool_break}
 use Rattle.spool_slots.specs.Spool.{Rests, SpoolView, known_of}
-use Rattle.spool_slots.specs.declared.reading.NotSpool.{NotSpool}
 use Rattle.spool_slots.specs.declared.states.Raw.{Raw}
 use Rattle.spool_slots.specs.declared.states.Recovering.{Recovering}
 use Rattle.spool_slots.specs.declared.states.Recovering.TheVariants as recovering

@@ -106,6 +106,7 @@ pub record IsBegunSpent
 abbrev pub StopsAt :
     EquipmentView → Input ToolCommand → ℕ → Node OwnView Kind → StepOut → Stop → Type 0
 StopsAt s input now node out stop.NumbersSpent = IsBegunSpent s input now node out
+StopsAt s input now node out stop.Full = ⊥
 StopsAt s input now node out stop.DiskFailed = ⊥
 StopsAt s input now node out stop.NoMemory = Unit {0}
 

@@ -4,13 +4,13 @@ use Rattle.disk_base.specs.Cut.{image_of}
 use Rattle.disk_base.specs.Story.{Story}
 use Rattle.disk_base.specs.declared.cut.CutChoice.{CutChoice}
 use Rattle.disk_base.specs.declared.disk.Disk as disk
-use Rattle.spool_slots.specs.File.{StandsFor}
+use Rattle.spool_file.specs.File.{StandsFor}
 use Rattle.message_end.specs.Ends.{Loss, call_of, printed}
 use Rattle.message_flow.specs.declared.step.Note.{Note}
 use Rattle.spool_works.specs.declared.ended.Ended.{Ended}
 use Rattle.spool_works.specs.declared.ended.Ended.TheVariants as ended
 use Rattle.tool_step.specs.Equipment.{EquipmentView}
-use Rattle.spool_works.specs.Breaking.{IsGoingDisk, HasPassed, LeavesImages, HasRoomLeft}
+use Rattle.spool_works.specs.Breaking.{IsGoingDisk, HasPassed, LeavesImages}
 
 -- the call of this place was made, at which the disk stops, and a crash leaves what this loss says, with what is noted
 -- by then
@@ -21,12 +21,11 @@ pub record HasBrokenAt (losses : List (Loss EquipmentView)) (call : ℕ) (after 
     pub left : (choice : CutChoice) → StandsFor (image_of choice after) (loss.left choice).file
     pub noted : notes ≡ printed loss.front
 
--- the disk fails where it was stopped, or for want of room. Where it was stopped, with room left, that was at the
--- planned call
+-- the disk fails where it was stopped, or for want of room. Where it was stopped, that was at the planned call
 abbrev pub BreaksAt : {D : Type 0} → disk.Ghosts D → D → List (Loss EquipmentView) → D → List Note → Type 0
 BreaksAt members old losses new notes =
     (t : Story) → members.told new ≡ Some t → LeavesImages t → (members.health new).stopped ≡ true
-    → HasRoomLeft (members.health new) → HasBrokenAt losses (members.health old).stop_in t notes
+    → HasBrokenAt losses (members.health old).stop_in t notes
 
 -- all calls of these losses were made
 abbrev pub Passes : {D : Type 0} → disk.Ghosts D → D → List (Loss EquipmentView) → D → Type 0

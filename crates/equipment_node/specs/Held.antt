@@ -6,9 +6,9 @@ use Rattle.disk_base.specs.Through.{EachImage}
 use Rattle.disk_base.specs.declared.disk.Disk as disk
 use Rattle.gem_spool.specs.declared.spool.GemSpool.{GemSpool}
 use Rattle.message_flow.specs.declared.step.StepOut.{StepOut}
+use Rattle.spool_file.specs.File.{SpoolFile, StandsFor, file_in, spool_break}
+use Rattle.spool_file.specs.Reading.{IsBreak}
 use Rattle.spool_slots.specs.Changes.{with_mark_moved}
-use Rattle.spool_slots.specs.File.{SpoolFile, StandsFor, file_in, spool_break}
-use Rattle.spool_slots.specs.Reading.{IsBreak}
 use Rattle.spool_slots.specs.Spool.{SpoolView, spool_code}
 use Rattle.spool_slots.specs.declared.states.Recovering.{Recovering}
 use Rattle.spool_slots.specs.declared.states.Recovering.TheVariants as recovering

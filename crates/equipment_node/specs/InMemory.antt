@@ -1,5 +1,5 @@
 -- The equipment in a world, with its spool on a disk in memory.
-use Rattle.std.specs.Prelude.{◌≡◌, ◌&&◌, ◌+◌, ◌-◌, nat_le, ℕ, Bool, true, false, [], ◌∷◌, length, Option, Some, None}
+use Rattle.std.specs.Prelude.{◌≡◌, ◌+◌, ◌-◌, ℕ, Bool, true, false, [], ◌∷◌, length, Option, Some, None}
 use Rattle.std.specs.Prelude.{OnOk, Result}
 use Rattle.disk_base.specs.Cut.{image_of}
 use Rattle.disk_base.specs.MemDisk.{DiskState, disk_health}
@@ -7,8 +7,8 @@ use Rattle.disk_base.specs.declared.cut.CutChoice.{CutChoice}
 use Rattle.disk_base.specs.declared.disk.Disk as disk
 use Rattle.gem_spool.specs.declared.spool.GemSpool.{GemSpool}
 use Rattle.message_flow.specs.declared.step.StepOut.{StepOut}
-use Rattle.spool_slots.specs.File.{SpoolFile, file_in}
-use Rattle.spool_slots.specs.Format.{empty_file}
+use Rattle.spool_file.specs.File.{SpoolFile, file_in}
+use Rattle.spool_file.specs.Format.{empty_file}
 use Rattle.trace_log.specs.Log.{Happening}
 use Rattle.message_end.specs.declared.end.Stop.{Stop}
 use Rattle.message_end.specs.declared.end.Stop.TheVariants as stop
@@ -99,16 +99,13 @@ IsWhole members plan (Some h) (Some lost) = ⊥
 IsWhole members plan None None = Unit {0}
 IsWhole members plan None (Some lost) = IsLost lost
 
--- the disk that a step has left, where a planned call has stopped it: there is room for the calls of a work still
+-- the disk that a step has left, where a planned call has stopped it
 abbrev pub lost_if : Bool → DiskState → Option DiskState
 lost_if true disk = Some disk
 lost_if false disk = None
 
 abbrev pub lost_by : Ended DiskState → Option DiskState
-lost_by (ended.DiskFailed spent) =
-    lost_if
-    (spent.disk.plan.stopped
-    && (nat_le 7 (disk_health spent.disk).calls && nat_le 4097 (disk_health spent.disk).room)) spent.disk
+lost_by (ended.DiskFailed spent) = lost_if spent.disk.plan.stopped spent.disk
 lost_by (ended.NoMemory spent) = None
 lost_by (ended.NumbersSpent spent) = None
 
@@ -116,6 +113,7 @@ lost_by (ended.NumbersSpent spent) = None
 abbrev pub stop_told : Bool → Stop → Stop
 stop_told is_lost stop.NoMemory = stop.NoMemory
 stop_told is_lost stop.NumbersSpent = stop.NumbersSpent
+stop_told is_lost stop.Full = stop.Full
 stop_told true stop.DiskFailed = stop.DiskFailed
 stop_told false stop.DiskFailed = stop.NoMemory
 
@@ -149,7 +147,7 @@ pub record StartsAnew
     (members : disk.Ghosts DiskState) (plan : EquipmentPlan) (went : Went EquipmentView Happening)
     (going : Option (Held DiskState)) (out : StepOut) (result : Result (Unit {0}) Stop)
     : Type 0 where
-  pub start : Leaves ([] ∷ []) went (state_in members plan going) out result
+  pub start : Leaves ([] ∷ []) false went (state_in members plan going) out result
   pub whole : IsNotStopped result
   pub made : OnOk result (made_in going ≡ machine.start_calls (state_in members plan going))
   pub planned : OnOk result (planned_in going ≡ calls_left machine (state_in members plan going))

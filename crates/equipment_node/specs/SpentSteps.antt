@@ -1,7 +1,7 @@
 -- Where a step and a start of the program end with their numbers spent.
 use Rattle.std.specs.Prelude.{◌≡◌, ℕ, true, false, Result, Ok, Err}
 use Rattle.disk_base.specs.declared.disk.Disk as disk
-use Rattle.spool_slots.specs.File.{SpoolFile}
+use Rattle.spool_file.specs.File.{SpoolFile}
 use Rattle.trace_log.specs.declared.commands.ToolCommand.{ToolCommand}
 use Rattle.message_end.specs.Ends.{Input}
 use Rattle.spool_works.specs.declared.ended.Ended.{Ended}

@@ -2,15 +2,15 @@
 use Rattle.std.specs.Prelude.{◌≡◌, ◌≢◌, ◌⊎◌, ℕ, ◌+◌, ◌≤◌, List, [], ◌∷◌, ◌++◌, length, Option, None, Result, Ok, Err}
 use Rattle.std.specs.List.{All}
 use Rattle.disk_base.specs.Calls.{DiskCall, Logs, sync_call}
-use Rattle.disk_base.specs.Faults.{IsCrowded}
+use Rattle.disk_base.specs.Faults.{IsLeftOut}
 use Rattle.disk_base.specs.declared.disk.CallKind.TheVariants.{Read}
 use Rattle.disk_base.specs.declared.disk.Disk as disk
 use Rattle.disk_base.specs.declared.disk.DiskAnswer.TheVariants.{Failed}
 use Rattle.gem_spool.specs.Updates.{syncs}
 use Rattle.gem_spool.specs.Standing.{Standing}
+use Rattle.spool_file.specs.File.{SpoolFile, file_in, spool_break}
+use Rattle.spool_file.specs.Reads.{recover_calls}
 use Rattle.spool_slots.specs.Changes.{most_reads}
-use Rattle.spool_slots.specs.File.{SpoolFile, file_in, spool_break}
-use Rattle.spool_slots.specs.Reads.{recover_calls}
 use Rattle.equipment_node.specs.declared.equipment.Starting.{Starting}
 use Rattle.equipment_node.specs.declared.equipment.Starting.TheVariants as starting
 use Rattle.spool_works.specs.DiskCalls.{HasFailedIn, HasMade, disk_calls, with_calls}
@@ -51,12 +51,13 @@ pub record AreLooks (before after : Option (List DiskCall)) (most : ℕ) : Type 
   pub listed : after ≡ with_calls (syncs ∷ looks) before
 
 -- of bytes that stand for a file some first calls of its start were done, and the next one failed. Of others the sync
--- failed; or a look, which is the last one then, and may be missing where it was crowded out
+-- failed; or a look, which is the last one then, and may be missing where it was left out
 abbrev pub FailsOnTheWay : {D : Type 0} → disk.Ghosts D → D → D → List ℕ → Type 0
 FailsOnTheWay members old new bytes =
     (spool_break bytes ≡ None → HasFailedIn members old new (start_calls (file_in bytes)))
     × (spool_break bytes ≢ None →
-    Logs sync_call (IsCrowded (members.health old) 1 0) (members.calls old) (members.calls new) Failed
+    Logs sync_call (IsLeftOut (members.health old) (members.health new) 0 0) (members.calls old) (members.calls new)
+    Failed
     ⊎ AreLooks (members.calls old) (members.calls new) (most_reads (members.size_is old)))
 
 -- the disk's calls in a start over these bytes are these

@@ -39,7 +39,7 @@ use disk_base::Disk;
 use gem_spool::{GemSpool, Kept, Unread, Work};
 use message_end::Stop;
 use message_flow::{NodeInput, StepOut};
-use spool_slots::BODY_MOST;
+use spool_file::BODY_MOST;
 use spool_works::Ended;
 use std::alloc::Global;
 use tool_core::{MORE, Spoolable, Tool, primary_function};
@@ -275,7 +275,8 @@ fn end_early<D: Disk>(
             cut_notes(&mut out.notes, 0);
             Ended::NoMemory(spool.retire())
         }
-        // (no part of a step asks the disk)
+        // (no part of a step fills the spool, or asks the disk)
+        Stop::Full => Ended::NoMemory(spool.retire()),
         Stop::DiskFailed => Ended::DiskFailed(spool.retire()),
     }
 }
@@ -420,6 +421,7 @@ fn end_with<D: Disk>(
         Ok(()) => Ok(spool),
         Err(Stop::NoMemory) => Err(Ended::NoMemory(spool.retire())),
         Err(Stop::NumbersSpent) => Err(Ended::NumbersSpent(spool.retire())),
+        Err(Stop::Full) => Err(Ended::NoMemory(spool.retire())),
         Err(Stop::DiskFailed) => Err(Ended::DiskFailed(spool.retire())),
     }
 }

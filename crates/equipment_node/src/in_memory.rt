@@ -1,7 +1,7 @@
 //! The equipment as an end of a world, where it may lose its power.
 
 ghost use Rattle.std.specs.Option.{option_map};
-ghost use Rattle.std.specs.Prelude.{◌≡◌, ◌<◌, ◌^◌, nat_le, IfSome, None, is_some, if◌then◌else◌};
+ghost use Rattle.std.specs.Prelude.{◌≡◌, ◌<◌, ◌^◌, nat_le, IfSome, None, false, is_some, if◌then◌else◌};
 ghost use Rattle.disk_base.specs.Cut.{image_of};
 ghost use Rattle.disk_base.specs.Images.{IsImage};
 ghost use Rattle.disk_base.specs.MemDisk.{after_cut};
@@ -32,17 +32,11 @@ use tool_core::Planned;
 use trace_log::ToolCommand;
 
 /// For how many calls there is room in the list of a disk in memory: for 65,536, and for a few more, so that a disk
-/// comes to the first call too many, at which it stops, before its list is full.
+/// lists the first call too many, at which it stops.
 pub const LISTED_CALLS: u32 = 65_536 + 16;
 
 /// And for how many bytes that they write: 64 MiB, and some more.
 pub const LISTED_BYTES: u64 = (64 << 20) + (16 << 10);
-
-// The most that a work of a step asks of the disk. Where as much room is left behind a stop, the call was made at which
-// it stopped.
-const WORK_CALLS: u32 = 7;
-
-const WORK_BYTES: u64 = 4_097;
 
 /// The equipment over a disk in memory, as long as it has power, and what a start anew begins with. One that has
 /// stopped makes no step any more; where a planned call has stopped its disk it may start anew.
@@ -167,6 +161,7 @@ impl End for EquipmentEnd {
         requires out { IsEmpty out.old }
         ensures step { Leaves
             (stops (state_in ⟦<MemDisk as Disk>⟧ self.old.plan self.old.going) (input_of input.entry) now)
+            false
             (act (state_in ⟦<MemDisk as Disk>⟧ self.old.plan self.old.going) (input_of input.entry) now)
             (state_in ⟦<MemDisk as Disk>⟧ self.new.plan self.new.going)
             out.new
@@ -235,6 +230,7 @@ impl EquipmentEnd {
         requires out { IsEmpty out.old }
         ensures step { Leaves
             (stops (view_in ⟦<MemDisk as Disk>⟧ equipment) (input_of input.entry) now)
+            false
             (act (view_in ⟦<MemDisk as Disk>⟧ equipment) (input_of input.entry) now)
             (state_in ⟦<MemDisk as Disk>⟧ self.new.plan self.new.going)
             out.new
@@ -371,11 +367,7 @@ fn lost_in(ended: Ended<MemDisk>) -> Option<MemDisk>
     match ended {
         Ended::DiskFailed(spent) => {
             let disk = spent.into_disk();
-            if disk.stopped() && disk.has_room(WORK_CALLS, WORK_BYTES) {
-                Some(disk)
-            } else {
-                None
-            }
+            if disk.stopped() { Some(disk) } else { None }
         }
         Ended::NoMemory(_) | Ended::NumbersSpent(_) => None,
     }
@@ -388,6 +380,7 @@ fn stop_as(stop: Stop, is_lost: bool) -> Stop
     match stop {
         Stop::NoMemory => Stop::NoMemory,
         Stop::NumbersSpent => Stop::NumbersSpent,
+        Stop::Full => Stop::Full,
         Stop::DiskFailed => {
             if is_lost {
                 Stop::DiskFailed

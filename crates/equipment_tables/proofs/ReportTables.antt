@@ -19,7 +19,7 @@ use Rattle.gem_reports.specs.Reporting.{Reporting, after_entry, drack_in, erack_
 use Rattle.gem_reports.specs.Tables.{ReportsView, StandsFor}
 use Rattle.gem_shapes.specs.declared.entries.Definition.{Definition}
 use Rattle.gem_shapes.specs.declared.entries.Linking.{Linking}
-use Rattle.gem_spool.specs.declared.rule.SpoolRule.{SpoolRule}
+use Rattle.spool_rule.specs.declared.rule.SpoolRule.{SpoolRule}
 use Rattle.gem_vars.specs.Tables.{VarsTable}
 use Rattle.equipment_tables.specs.Tables.{TablesState, definitions_by, events_by, linkings_by, with_reports}
 

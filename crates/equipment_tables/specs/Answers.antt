@@ -24,8 +24,8 @@ use Rattle.gem_reports.specs.Reporting.{drack_in, erack_in, event_body_in, lrack
 use Rattle.gem_shapes.specs.Answers.{code_item, identity_item, pair_item}
 use Rattle.gem_shapes.specs.declared.request.TablesRequest.{TablesRequest}
 use Rattle.gem_shapes.specs.declared.request.TablesRequest.TheVariants as tables_request
-use Rattle.gem_spool.specs.Reply.{reply_item}
-use Rattle.gem_spool.specs.Rule.{answer_of as rule_answer}
+use Rattle.spool_rule.specs.Reply.{reply_item}
+use Rattle.spool_rule.specs.Rule.{answer_of as rule_answer}
 use Rattle.gem_vars.specs.declared.settings.Eac.{Eac}
 use Rattle.gem_vars.specs.declared.settings.Eac.TheVariants as eac
 use Rattle.gem_vars.specs.Listing.{constant_names_of, constant_values_of, status_names_of, status_values_of}

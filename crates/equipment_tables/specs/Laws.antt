@@ -1,7 +1,7 @@
 -- What holds of the tables after every history.
 use Rattle.std.specs.Prelude.{◌≡◌, ℕ, List, [], ◌∷◌}
 use Rattle.trace_log.specs.Log.{Past}
-use Rattle.gem_spool.specs.Rule.{covered, covers}
+use Rattle.spool_rule.specs.Rule.{covered, covers}
 use Rattle.equipment_tables.specs.declared.plan.EquipmentPlan.{EquipmentPlan}
 use Rattle.equipment_tables.specs.Past.{entries_at, spooled_by, tables_at}
 use Rattle.equipment_tables.specs.Plan.{EquipmentPlanFits}

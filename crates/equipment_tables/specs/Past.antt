@@ -27,9 +27,9 @@ use Rattle.gem_shapes.specs.declared.request.Request.{Request}
 use Rattle.gem_shapes.specs.declared.request.Request.TheVariants as request
 use Rattle.gem_shapes.specs.declared.request.TablesRequest.{TablesRequest}
 use Rattle.gem_shapes.specs.declared.request.TablesRequest.TheVariants as tables_request
-use Rattle.gem_spool.specs.declared.rule.RuleAnswer.{RuleAnswer}
-use Rattle.gem_spool.specs.declared.rule.RuleAnswer.TheVariants.{Rejected, Replaced}
-use Rattle.gem_spool.specs.Rule.{answer_of, rule_of}
+use Rattle.spool_rule.specs.declared.rule.RuleAnswer.{RuleAnswer}
+use Rattle.spool_rule.specs.declared.rule.RuleAnswer.TheVariants.{Rejected, Replaced}
+use Rattle.spool_rule.specs.Rule.{answer_of, rule_of}
 use Rattle.gem_tables.specs.History.{newest}
 use Rattle.gem_vars.specs.declared.settings.Eac.{Eac}
 use Rattle.gem_vars.specs.declared.settings.Eac.TheVariants as eac

@@ -26,8 +26,8 @@ use Rattle.gem_shapes.specs.declared.request.Request.{Request}
 use Rattle.gem_shapes.specs.declared.request.Request.TheVariants as request
 use Rattle.gem_shapes.specs.declared.request.TablesRequest.{TablesRequest}
 use Rattle.gem_shapes.specs.declared.request.TablesRequest.TheVariants as tables_request
-use Rattle.gem_spool.specs.declared.rule.SpoolRule.{SpoolRule}
-use Rattle.gem_spool.specs.Rule.{rule_after, rule_of}
+use Rattle.spool_rule.specs.declared.rule.SpoolRule.{SpoolRule}
+use Rattle.spool_rule.specs.Rule.{rule_after, rule_of}
 use Rattle.gem_tables.specs.Rows.{with_row}
 use Rattle.gem_vars.specs.declared.settings.Eac.{Eac}
 use Rattle.gem_vars.specs.declared.settings.Eac.TheVariants as eac

@@ -4,8 +4,8 @@ ghost use Rattle.equipment_tables.specs.Laws.{TablesAreLookedBackFor};
 
 use gem_alarms::alarms_are_looked_back_for;
 use gem_reports::reports_go_by_what_stands;
-use gem_spool::the_rule_is_looked_back_for;
 use gem_vars::vars_are_looked_back_for;
+use spool_rule::the_rule_is_looked_back_for;
 
 /// After each history the tables are those that are looked back for: each value, constant, report, link, enable and
 /// alarm is what the newest entry says that was accepted, and otherwise the plan; and what is spooled is what the

@@ -11,7 +11,8 @@ use gem_vars::{VariablePlan, VarsPlan};
 use gl_base::Row;
 use line_end::{LinePlan, Times};
 use secs_items::{Item, Kind};
-use spool_slots::{Raw, slot_place};
+use spool_file::slot_place;
+use spool_slots::Raw;
 use std::alloc::Global;
 
 fn copied(alloc: Global, text: &[u8]) -> Option<Row<u8>> {

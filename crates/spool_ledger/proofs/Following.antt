@@ -130,17 +130,17 @@ IsAlone Confirmed = Unit {0}
 IsAlone Overwritten = Unit {0}
 IsAlone Purged = ⊥
 
-oldest_list : (cause : Cause) (v : LedgerView) → IsAlone cause → 0 < v.len →
-    listed (numbers_of v) (oldest_out cause v).lines ≡ numbers_from (v.first + 1) (v.len - 1)
-oldest_list Confirmed v alone some = front_out v.first v.len some
-oldest_list Overwritten v alone some = front_out v.first v.len some
-oldest_list Purged v alone some = absurd alone
+oldest_list : (cause : Cause) (for_one : Option Spooled) (v : LedgerView) → IsAlone cause → 0 < v.len →
+    listed (numbers_of v) (oldest_out cause for_one v).lines ≡ numbers_from (v.first + 1) (v.len - 1)
+oldest_list Confirmed for_one v alone some = front_out v.first v.len some
+oldest_list Overwritten for_one v alone some = front_out v.first v.len some
+oldest_list Purged for_one v alone some = absurd alone
 
-oldest_comes : (cause : Cause) (v : LedgerView) → IsAlone cause → IsLedger v → 0 < v.len →
-    HasCome v (oldest_out cause v)
-oldest_comes cause v alone is some = record {
+oldest_comes : (cause : Cause) (for_one : Option Spooled) (v : LedgerView) → IsAlone cause → IsLedger v →
+    0 < v.len → HasCome v (oldest_out cause for_one v)
+oldest_comes cause for_one v alone is some = record {
   is = oldest_out_keeps v (owed v work.DropOldest) is some refl;
-  list = oldest_list cause v alone some;
+  list = oldest_list cause for_one v alone some;
   rise = refl;
   next = omega (arith, some);
   no_lower = omega arith;
@@ -168,10 +168,10 @@ stored_comes : (found : Room) (overwrites : Bool) (message : Spooled) (v : Ledge
 stored_comes room.Fits overwrites message v is may found = put_comes v message is may.0 may.1 found
 stored_comes room.Full true message v is may found =
     let some = full_has_some v (length message.body) is found in
-    let first = oldest_comes Overwritten v tt is some in
-    come_then v (oldest_out Overwritten v) (put message) first
-    (put_comes (oldest_out Overwritten v).next message first.is may.0 may.1
-    (makes_room v Overwritten (length message.body) is found))
+    let first = oldest_comes Overwritten (Some message) v tt is some in
+    come_then v (oldest_out Overwritten (Some message) v) (put message) first
+    (put_comes (oldest_out Overwritten (Some message) v).next message first.is may.0 may.1
+    (makes_room v Overwritten (Some message) (length message.body) is found))
 stored_comes room.Full false message v is may found =
     beside v v (Discarded (spooled_name message)) is refl refl refl refl
 stored_comes room.TooLong overwrites message v is may found =
@@ -222,12 +222,12 @@ has_some len some = grind (arith, nat_tests, some)
 
 -- a message that leaves as confirmed is counted
 counts_comes : (v : LedgerView) → IsLedger v → 0 < v.len →
-    HasCome v (and_then (oldest_out Confirmed v) (λ w. quiet (with_each counted w)))
+    HasCome v (and_then (oldest_out Confirmed None v) (λ w. quiet (with_each counted w)))
 counts_comes v is some =
-    let first = oldest_comes Confirmed v tt is some in
+    let first = oldest_comes Confirmed None v tt is some in
     let more = each_confirmed counted 1 (λ unload. omega arith) v.unload in
-    come_then v (oldest_out Confirmed v) (λ w. quiet (with_each counted w)) first
-    (unload_comes (oldest_out Confirmed v).next (option_map counted v.unload) first.is
+    come_then v (oldest_out Confirmed None v) (λ w. quiet (with_each counted w)) first
+    (unload_comes (oldest_out Confirmed None v).next (option_map counted v.unload) first.is
     (omega (arith, more, is.confirmed)))
 
 confirm_comes : (v : LedgerView) → IsLedger v → HasCome v (confirmed v)

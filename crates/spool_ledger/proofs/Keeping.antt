@@ -1,5 +1,5 @@
 -- That each work is due when it is decided.
-use Rattle.std.proofs.Common.{◌≡◌, ◌==◌, ℕ, ◌+◌, ◌-◌, ◌%◌, ◌^◌, ◌<◌, ◌≤◌, nat_le, nat_lt, Bool, true, false, if◌then◌else◌, List, [], ◌∷◌, length, refl, sym, ap, subst, ◌∙◌, arith}
+use Rattle.std.proofs.Common.{◌≡◌, ◌==◌, ℕ, ◌+◌, ◌-◌, ◌%◌, ◌^◌, ◌<◌, ◌≤◌, nat_le, nat_lt, Bool, true, false, if◌then◌else◌, List, [], ◌∷◌, length, Option, refl, sym, ap, subst, ◌∙◌, arith}
 use Rattle.std.proofs.lemmas.Bool.Decides.{nat_tests}
 use Rattle.std.proofs.lemmas.List.Sums.{fold-append}
 use Rattle.gem_spool.specs.Works.{AreDue, IsDue, count_after, counts_after}
@@ -116,9 +116,9 @@ pub full_has_some : (v : LedgerView) (long : ℕ) → IsLedger v → room_for v 
 full_has_some v long is full = all_used v.len v.slots (full_is v long full).2 is.some
 
 -- behind the oldest there is room
-pub makes_room : (v : LedgerView) (cause : Cause) (long : ℕ) → IsLedger v → room_for v long ≡ room.Full →
-    room_for (oldest_out cause v).next long ≡ room.Fits
-makes_room v cause long is full =
+pub makes_room : (v : LedgerView) (cause : Cause) (for_one : Option Spooled) (long : ℕ) → IsLedger v →
+    room_for v long ≡ room.Full → room_for (oldest_out cause for_one v).next long ≡ room.Fits
+makes_room v cause for_one long is full =
     let tests = full_is v long full in
     let some = full_has_some v long is full in
     let same : v.first + 1 + (v.len - 1) ≡ next_of v = omega (arith, some) in

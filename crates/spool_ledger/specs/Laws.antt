@@ -66,9 +66,9 @@ without number = filter (λ other. not (number == other))
 -- a message that is stored joins the others; one that leaves is taken out by its number, and a purge takes all out
 abbrev pub listed_after : List ℕ → Happening → List ℕ
 listed_after numbers (Stored number) = numbers ++ number ∷ []
-listed_after numbers (Leaving number Confirmed) = without number numbers
-listed_after numbers (Leaving number Overwritten) = without number numbers
-listed_after numbers (Leaving number Purged) = []
+listed_after numbers (Leaving number Confirmed room_for) = without number numbers
+listed_after numbers (Leaving number Overwritten room_for) = without number numbers
+listed_after numbers (Leaving number Purged room_for) = []
 listed_after numbers _ = numbers
 
 abbrev pub listed : List ℕ → List Happening → List ℕ
@@ -98,5 +98,5 @@ pub record LedgersAreLawful : Type 0 where
   pub keeps : (v : LedgerView) (calls : List Call) → IsLedger v → All MayCall calls → HasCome v (all_bring calls v)
   -- behind the oldest there is room in a full spool, so that to ask again is to find room
   pub makes_room :
-      (v : LedgerView) (cause : Cause) (long : ℕ) → IsLedger v → room_for v long ≡ room.Full
-      → room_for (oldest_out cause v).next long ≡ room.Fits
+      (v : LedgerView) (cause : Cause) (for_one : Option Spooled) (long : ℕ) → IsLedger v → room_for v long ≡ room.Full
+      → room_for (oldest_out cause for_one v).next long ≡ room.Fits

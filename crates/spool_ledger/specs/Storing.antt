@@ -30,11 +30,11 @@ put message v = record {
   lines = Storing (next_of v) message ∷ Stored (next_of v) ∷ [];
 }
 
--- the oldest message leaves
-abbrev pub oldest_out : Cause → LedgerView → Booked
-oldest_out cause v = record {
+-- the oldest message leaves, perhaps to make room for another
+abbrev pub oldest_out : Cause → Option Spooled → LedgerView → Booked
+oldest_out cause for_one v = record {
   next = record v { first = v.first + 1; len = v.len - 1; works = owed v work.DropOldest };
-  lines = Leaving v.first cause ∷ Gone v.first ∷ [];
+  lines = Leaving v.first cause for_one ∷ Gone v.first ∷ [];
 }
 
 -- all messages leave; of an empty list nothing is noted
@@ -43,7 +43,7 @@ all_out v =
     if v.len == 0 then quiet v
     else record {
       next = record v { first = v.first + v.len; len = 0; works = owed v work.Purge };
-      lines = Leaving v.first Purged ∷ Gone v.first ∷ [];
+      lines = Leaving v.first Purged None ∷ Gone v.first ∷ [];
     }
 
 -- a message that isn't put
@@ -54,7 +54,7 @@ unstored what v = record { next = v; lines = what ∷ [] }
 -- overwritten (SEMI E30, OverWriteSpool); None where it would get no number
 abbrev pub stored_by : Room → Bool → Spooled → LedgerView → Option Booked
 stored_by room.Fits overwrites message v = Some (put message v)
-stored_by room.Full true message v = Some (and_then (oldest_out Overwritten v) (put message))
+stored_by room.Full true message v = Some (and_then (oldest_out Overwritten (Some message) v) (put message))
 stored_by room.Full false message v = Some (unstored (Discarded (spooled_name message)) v)
 stored_by room.TooLong overwrites message v = Some (unstored (TooLong (spooled_name message)) v)
 stored_by room.NumbersSpent overwrites message v = None
@@ -76,5 +76,6 @@ Books booked old out_old new out_new (Ok done) =
     option_map (account_of out_old.notes) booked ≡ Some (record { ledger = new; notes = out_new.notes })
 Books booked old out_old new out_new (Err stop.NumbersSpent) =
     (booked ≡ None) × (new ≡ old) × (out_new ≡ out_old)
+Books booked old out_old new out_new (Err stop.Full) = ⊥
 Books booked old out_old new out_new (Err stop.DiskFailed) = ⊥
 Books booked old out_old new out_new (Err stop.NoMemory) = Unit {0}

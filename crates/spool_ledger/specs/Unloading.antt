@@ -65,7 +65,7 @@ is_oldest_tried v = nat_lt 0 v.len && tries v.first v.unload
 -- a reply confirms the message and removes it; where it has left already nothing is removed or counted
 abbrev pub confirmed : LedgerView → Booked
 confirmed v =
-    if is_oldest_tried v then and_then (oldest_out Confirmed v) (λ w. quiet (with_each counted w))
+    if is_oldest_tried v then and_then (oldest_out Confirmed None v) (λ w. quiet (with_each counted w))
     else quiet (with_each settled v)
 
 -- ---- the next message

@@ -1,9 +1,10 @@
 //! How messages come to the list and leave it: one is stored, the oldest is overwritten, all are purged.
 
-ghost use Rattle.std.specs.Prelude.{◌≡◌, ◌<◌, ◌≤◌, ◌%◌, ◌++◌, ◌∷◌, [], length, IfOk};
+ghost use Rattle.std.specs.Prelude.{◌≡◌, ◌<◌, ◌≤◌, ◌%◌, ◌++◌, ◌∷◌, [], length, IfOk, None, Option};
 ghost use Rattle.gem_spool.specs.declared.spool.Room.TheVariants.{Fits};
 ghost use Rattle.message_end.specs.Ends.{printed};
 ghost use Rattle.trace_log.specs.Log.Happening.{Gone, Leaving};
+ghost use Rattle.trace_log.specs.Names.{Spooled};
 ghost use Rattle.spool_ledger.specs.Ledger.{confirmed_of, room_for};
 ghost use Rattle.spool_ledger.specs.Storing.{Books, all_out, oldest_out, put, spooled, stored};
 
@@ -117,7 +118,7 @@ impl Ledger {
         Ok(())
     }
 
-    // The oldest message leaves.
+    // The oldest message leaves. What room it makes isn't printed.
     pub(crate) fn oldest_out(
         &mut self,
         alloc: Global,
@@ -125,9 +126,9 @@ impl Ledger {
         out: &mut StepOut,
     ) -> Result<(), NoMemory>
         requires some { 0 < self.old.len }
-        ensures next { IfOk result (λ done. self.new ≡ (oldest_out cause self.old).next) }
-        ensures notes { IfOk result
-            (λ done. out.new.notes ≡ out.old.notes ++ printed (oldest_out cause self.old).lines) }
+        ensures next { IfOk result (λ done. self.new ≡ (oldest_out cause None self.old).next) }
+        ensures notes { (for_one : Option Spooled) → IfOk result
+            (λ done. out.new.notes ≡ out.old.notes ++ printed (oldest_out cause for_one self.old).lines) }
         ensures line { out.new.line ≡ out.old.line }
         ensures confirmed { confirmed_of self.old.unload ≤ self.old.first }
     {
@@ -141,8 +142,8 @@ impl Ledger {
 
 // Notes a message that leaves.
 fn note_leaving(alloc: Global, number: u64, cause: Cause, out: &mut StepOut) -> Result<(), NoMemory>
-    ensures notes { IfOk result
-        (λ done. out.new.notes ≡ out.old.notes ++ printed (Leaving number cause ∷ Gone number ∷ [])) }
+    ensures notes { (for_one : Option Spooled) → IfOk result
+        (λ done. out.new.notes ≡ out.old.notes ++ printed (Leaving number cause for_one ∷ Gone number ∷ [])) }
     ensures line { out.new.line ≡ out.old.line }
 {
     out.notes.push(leaving_note(alloc, number, cause)?)?;

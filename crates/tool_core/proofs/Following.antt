@@ -9,7 +9,7 @@ use Rattle.message_flow.specs.declared.step.StepOut.{StepOut}
 use Rattle.trace_log.specs.Log.{Happening}
 use Rattle.trace_log.specs.Text.{printed_note}
 use Rattle.message_end.specs.declared.end.Stop.{Stop}
-use Rattle.message_end.specs.declared.end.Stop.TheVariants.{DiskFailed, NoMemory, NumbersSpent}
+use Rattle.message_end.specs.declared.end.Stop.TheVariants.{DiskFailed, Full, NoMemory, NumbersSpent}
 use Rattle.message_end.specs.Core.{Command, EndView, Step, Went, and_then, carried, carry}
 use Rattle.message_end.specs.Core.Command.{Note as NoteThis}
 use Rattle.message_end.specs.Core.Went.{Goes, Spent}
@@ -48,6 +48,7 @@ pub reached :
     → ComesTo went new out result → IsReached went new out result
 reached A went new out (Ok done) is = is
 reached A went new out (Err NumbersSpent) is = record { own = new.own; ledger = refl; is = is }
+reached A went new out (Err Full) is = absurd is
 reached A went new out (Err DiskFailed) is = absurd is
 reached A went new out (Err NoMemory) is = tt
 
@@ -70,6 +71,7 @@ pub parts_stop :
     → IsReached {A = A} (after_parts printed_note first (on_the_way old out)) new out_new (Err end)
     → IsReached {A = B} (after_parts printed_note (first ++ second) (on_the_way old out)) new out_new (Err end)
 parts_stop A B first second old new out out_new NoMemory is = tt
+parts_stop A B first second old new out out_new Full is = absurd is
 parts_stop A B first second old new out out_new DiskFailed is = absurd is
 parts_stop A B first second old new out out_new NumbersSpent is = record {
   own = is.own;
@@ -97,6 +99,7 @@ pub first_stops :
     → Reaches {A = A} (part old.own old.core) old out new out_new (Err end)
     → ReachesAll {A = B} (part ∷ rest) old out new out_new (Err end)
 first_stops A B part rest old new out out_new NoMemory is = tt
+first_stops A B part rest old new out out_new Full is = absurd is
 first_stops A B part rest old new out out_new DiskFailed is = absurd is
 first_stops A B part rest old new out out_new NumbersSpent is = record {
   own = is.own;
@@ -136,6 +139,7 @@ pub leads_stopped :
     → ComesTo {A = A} (carry printed_note lead (on_the_way old out)) new.core out_new (Err end)
     → Reaches {A = B} (leads lead turn old) (node own old) out new out_new (Err end)
 leads_stopped A B own lead turn old new out out_new step NoMemory goes is = tt
+leads_stopped A B own lead turn old new out out_new step Full goes is = absurd is
 leads_stopped A B own lead turn old new out out_new step DiskFailed goes is = absurd is
 leads_stopped A B own lead turn old new out out_new step NumbersSpent goes is = absurd (cc)
 

@@ -4,7 +4,7 @@ use Rattle.std.specs.Prelude.{Result, Err}
 use Rattle.message_flow.specs.declared.step.StepOut.{StepOut}
 use Rattle.trace_log.specs.Names.{Spooled}
 use Rattle.message_end.specs.declared.end.Stop.{Stop}
-use Rattle.message_end.specs.declared.end.Stop.TheVariants.{DiskFailed, NoMemory, NumbersSpent}
+use Rattle.message_end.specs.declared.end.Stop.TheVariants.{DiskFailed, Full, NoMemory, NumbersSpent}
 use Rattle.message_end.specs.Parts.{Takes}
 use Rattle.equipment_tables.specs.declared.answers.Answer.{Answer}
 use Rattle.tool_core.specs.Judged.{IsJudged, IsJudgedSo, MayGo}
@@ -44,6 +44,7 @@ pub judged_stops :
     → text ≡ wanted → IsJudged report text old out new out_new (Err end)
     → Takes {A = Unit {0}} (judged_turn report going wanted old.own) old out new out_new (Err end)
 judged_stops report going text wanted old new out out_new NoMemory same is = tt
+judged_stops report going text wanted old new out out_new Full same is = absurd is
 judged_stops report going text wanted old new out out_new DiskFailed same is = absurd is
 judged_stops report going text wanted old new out out_new NumbersSpent same is =
     judged_done report going text wanted old new out out_new (Err NumbersSpent) same is
@@ -69,6 +70,7 @@ pub stops_judged :
     → Takes {A = Unit {0}} turn old out new out_new (Err end)
     → IsJudged report text old out new out_new (Err end)
 stops_judged report text turn old new out out_new NoMemory online same is = tt
+stops_judged report text turn old new out out_new Full online same is = absurd is
 stops_judged report text turn old new out out_new DiskFailed online same is = absurd is
 stops_judged report text turn old new out out_new NumbersSpent online same is =
     so_judged report text turn old new out out_new (Err NumbersSpent) online same is

@@ -112,6 +112,7 @@ stores_ended :
     → Takes {A = B} (fixed_turn own (map NoteThis lines ++ (if spent then Halt ∷ [] else more))) old out new out_new
     (Err end)
 stores_ended A B own lines spent more old middle new out out_new stop.NoMemory same is = tt
+stores_ended A B own lines spent more old middle new out out_new stop.Full same is = absurd is
 stores_ended A B own lines spent more old middle new out out_new stop.DiskFailed same is = absurd is
 stores_ended A B own lines true more old middle new out out_new stop.NumbersSpent same is =
     subst

@@ -10,7 +10,7 @@ use Rattle.trace_log.specs.Log.{Happening}
 use Rattle.trace_log.specs.Names.{Spooled}
 use Rattle.trace_log.specs.Text.{printed_note}
 use Rattle.message_end.specs.declared.end.Stop.{Stop}
-use Rattle.message_end.specs.declared.end.Stop.TheVariants.{DiskFailed, NoMemory, NumbersSpent}
+use Rattle.message_end.specs.declared.end.Stop.TheVariants.{DiskFailed, Full, NoMemory, NumbersSpent}
 use Rattle.message_end.specs.Core.{EndView, Step, Went, and_then, carried}
 use Rattle.message_end.specs.Core.Command.{Halt, Note as NoteThis}
 use Rattle.message_end.specs.Core.Went.{Goes, Spent}
@@ -64,6 +64,7 @@ stored_went own (Some booked) core ledger_new out out_new (Ok done) is line =
     ∙ ap (λ l. record { line = l; notes = out_new.notes }) (sym line)))
 stored_went own None core ledger_new out out_new (Ok done) is line = absurd (cc)
 stored_went own booked core ledger_new out out_new (Err NoMemory) is line = tt
+stored_went own booked core ledger_new out out_new (Err Full) is line = absurd is
 stored_went own booked core ledger_new out out_new (Err DiskFailed) is line = absurd is
 stored_went own booked core ledger_new out out_new (Err NumbersSpent) is line =
     ap

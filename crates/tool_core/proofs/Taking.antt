@@ -45,6 +45,7 @@ pub duties_end :
     → Takes {A = A} (record { own = own; duties = first }) old out new out_new (Err end)
     → Takes {A = B} (record { own = own; duties = first ++ second }) old out new out_new (Err end)
 duties_end A B own first second old new out out_new stop.NoMemory is = tt
+duties_end A B own first second old new out out_new stop.Full is = absurd is
 duties_end A B own first second old new out out_new stop.DiskFailed is = absurd is
 duties_end A B own first second old new out out_new stop.NumbersSpent is =
     ap (λ (w : Went (EndView Kind) Note). went_with own w)
@@ -115,6 +116,7 @@ pub many_stop :
     → Takes {A = A} (part middle.own middle.core) middle out_middle new out_new (Err end)
     → TakesAll {A = B} (replicate most part) first out new out_new (Err end)
 many_stop A B n most part first middle new out out_middle out_new stop.NoMemory some same is = tt
+many_stop A B n most part first middle new out out_middle out_new stop.Full some same is = absurd is
 many_stop A B n most part first middle new out out_middle out_new stop.DiskFailed some same is = absurd is
 many_stop A B n most part first middle new out out_middle out_new stop.NumbersSpent some same is =
     sym same ∙ go n some

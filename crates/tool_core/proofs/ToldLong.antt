@@ -81,6 +81,7 @@ pub long_stops :
     → Takes {A = A} (turn_of old.own (error_duty 11 header old.own ∷ [])) old out new out_new (Err end)
     → Takes {A = B} turn old out new out_new (Err end)
 long_stops A B header turn old new out out_new stop.NoMemory left is = tt
+long_stops A B header turn old new out out_new stop.Full left is = absurd is
 long_stops A B header turn old new out out_new stop.DiskFailed left is = absurd is
 long_stops A B header turn old new out out_new stop.NumbersSpent left is =
     absurd (error_goes A 11 header old.own old new out out_new left is)

@@ -4,7 +4,7 @@ use Rattle.message_flow.specs.declared.step.Note.{Note}
 use Rattle.message_flow.specs.declared.step.StepOut.{StepOut}
 use Rattle.trace_log.specs.Text.{printed_note}
 use Rattle.message_end.specs.declared.end.Stop.{Stop}
-use Rattle.message_end.specs.declared.end.Stop.TheVariants.{DiskFailed, NoMemory, NumbersSpent}
+use Rattle.message_end.specs.declared.end.Stop.TheVariants.{DiskFailed, Full, NoMemory, NumbersSpent}
 use Rattle.message_end.specs.Core.{Went}
 use Rattle.message_end.specs.Core.Went.{Goes, Spent}
 use Rattle.message_end.specs.Parts.{Node, after_parts, after_turn, on_the_way}
@@ -22,6 +22,7 @@ abbrev pub IsReached :
     {A : Type 0} → Went (Node OwnView Kind) Note → Node OwnView Kind → StepOut → Result A Stop → Type 0
 IsReached went new out (Ok done) = went ≡ Goes (on_the_way new out)
 IsReached went new out (Err NumbersSpent) = IsSpent went new out
+IsReached went new out (Err Full) = ⊥
 IsReached went new out (Err DiskFailed) = ⊥
 IsReached went new out (Err NoMemory) = Unit {0}
 

@@ -5,7 +5,7 @@ use Rattle.message_flow.specs.declared.step.StepOut.{StepOut}
 use Rattle.trace_log.specs.declared.names.Name.{Name}
 use Rattle.trace_log.specs.Names.{Spooled}
 use Rattle.message_end.specs.declared.end.Stop.{Stop}
-use Rattle.message_end.specs.declared.end.Stop.TheVariants.{DiskFailed, NoMemory, NumbersSpent}
+use Rattle.message_end.specs.declared.end.Stop.TheVariants.{DiskFailed, Full, NoMemory, NumbersSpent}
 use Rattle.message_end.specs.Parts.{Node, Takes}
 use Rattle.equipment_tables.specs.declared.answers.Answer.{Answer}
 use Rattle.equipment_tables.specs.declared.answers.Answer.TheVariants as answer
@@ -49,5 +49,6 @@ IsJudged report text old out_old new out_new (Ok (Some body)) = MayGo report tex
 IsJudged report text old out_old new out_new (Ok None) = IsJudgedSo report text old out_old new out_new (Ok tt)
 IsJudged report text old out_old new out_new (Err NumbersSpent) =
     IsJudgedSo report text old out_old new out_new (Err NumbersSpent)
+IsJudged report text old out_old new out_new (Err Full) = ⊥
 IsJudged report text old out_old new out_new (Err DiskFailed) = ⊥
 IsJudged report text old out_old new out_new (Err NoMemory) = Unit {0}

@@ -3,7 +3,7 @@
 
 ghost use Rattle.std.specs.Prelude.{◌≡◌, ◌&&◌, ◌∷◌, IfOk};
 ghost use Rattle.gem_shapes.specs.Answers as shapes;
-ghost use Rattle.gem_spool.specs.Rule.{covered};
+ghost use Rattle.spool_rule.specs.Rule.{covered};
 ghost use Rattle.tool_core.specs.Judged.{IsShort};
 ghost use Rattle.tool_core.specs.Node.{own_of};
 ghost use Rattle.tool_step.specs.Own.{turn_of};

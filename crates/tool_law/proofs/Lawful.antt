@@ -23,6 +23,7 @@ use Rattle.message_end.specs.Duties.{all_done}
 use Rattle.message_end.specs.Ends.{HasRestarted, HasStarted, Input, IsFront, KeepsLaw, Loss, LosesAt, MayTake, OnStart}
 use Rattle.message_end.specs.Ends.Input.{Char, Command as Told, Time}
 use Rattle.message_end.specs.InStep.{NoneEnds}
+use Rattle.message_end.specs.Starts.IsStartOf.{of_equipment}
 use Rattle.message_end.specs.Parts.{Node, after_parts, after_turn, core_after, core_step, fixed_turn, went_with, with_own}
 use Rattle.message_end.proofs.InSteps.{none-front}
 use Rattle.message_end.proofs.Lower.{lower}
@@ -53,8 +54,8 @@ use Rattle.tool_law.specs.Laws.{DidOf}
 use Rattle.tool_step.specs.Step.{begun, delay_timer, end_plan, first_parts, input_part, last_parts, late_parts, line_timer}
 use Rattle.spool_ledger.specs.declared.ledger.Stand.{Stand}
 use Rattle.spool_ledger.specs.Ledger.{new_ledger}
-use Rattle.spool_slots.specs.File.{SpoolFile}
-use Rattle.spool_slots.specs.Slot.{Message as Kept}
+use Rattle.spool_file.specs.File.{SpoolFile}
+use Rattle.spool_file.specs.Slot.{Message as Kept}
 use Rattle.tool_step.specs.Live.{ReportView}
 use Rattle.tool_law.specs.Tried.{AreInTurn, newest_of}
 use Rattle.tool_law.proofs.TriedCores.{none-tried}
@@ -421,9 +422,10 @@ module _ (plan : EquipmentPlan) (fits : EquipmentPlanFits plan) where
       go false is =
           record {
             base = file.mark.value;
-            found = found_in file.list;
+            note = Happening.EquipmentStarted (found_in file.list) file.mark.value;
             is = started-at file can is;
             above = above;
+            of_side = of_equipment (found_in file.list) file.mark.value;
             notes = refl;
             written = refl;
           }

@@ -16,7 +16,7 @@ use Rattle.message_end.specs.Doings.{Doing, own_of}
 use Rattle.message_end.specs.Ends.{HasRestarted, HasStarted, Input, KeepsLaw, Loss, OnStart}
 use Rattle.message_end.specs.Own.{Has, drawn_in}
 use Rattle.message_end.specs.Parts.{after_parts}
-use Rattle.spool_slots.specs.File.{SpoolFile}
+use Rattle.spool_file.specs.File.{SpoolFile}
 use Rattle.trace_log.specs.Commands.{ToolCommandFits}
 use Rattle.trace_log.specs.declared.commands.ToolCommand.{ToolCommand}
 use Rattle.trace_log.specs.Log.{Happening}

@@ -1,5 +1,5 @@
 -- The lines that calls of the spool's ledger note, for any class of notes.
-use Rattle.std.proofs.Common.{◌+◌, ◌==◌, ◌&&◌, not, Bool, true, false, ℕ, [], ◌∷◌, length, if◌then◌else◌}
+use Rattle.std.proofs.Common.{◌+◌, ◌==◌, ◌&&◌, not, Bool, true, false, ℕ, [], ◌∷◌, length, Option, None, if◌then◌else◌}
 use Rattle.std.specs.Prelude.{IfSome}
 use Rattle.gem_spool.specs.declared.spool.Room.{Room}
 use Rattle.gem_spool.specs.declared.spool.Room.TheVariants as room
@@ -19,7 +19,8 @@ use Rattle.tool_law.proofs.CommandWalks.{AllAre}
 pub record HasSpoolNotes (Says : Happening → Type 0) : Type 0 where
   pub spool : (active : Bool) → Says (Happening.Spool active)
   pub stored : (number : ℕ) → Says (Happening.Stored number)
-  pub leaving : (number : ℕ) (cause : Cause) → Says (Happening.Leaving number cause)
+  pub leaving :
+      (number : ℕ) (cause : Cause) (room_for : Option Spooled) → Says (Happening.Leaving number cause room_for)
   pub gone : (number : ℕ) → Says (Happening.Gone number)
   pub discarded : (name : Name) → Says (Happening.Discarded name)
   pub too_long : (name : Name) → Says (Happening.TooLong name)
@@ -30,7 +31,7 @@ module _ {Says : Happening → Type 0} (says : HasSpoolNotes Says) where
       → ((number : ℕ) → Says (Happening.Storing number message))
       → IfSome (stored_by found overwriting message v) (λ (booked : Booked). AllAre Says booked.lines)
   put-lines room.Fits overwriting message v puts = (puts _, (says.stored _, tt))
-  put-lines room.Full true message v puts = (says.leaving _ _, (says.gone _, (puts _, (says.stored _, tt))))
+  put-lines room.Full true message v puts = (says.leaving _ _ _, (says.gone _, (puts _, (says.stored _, tt))))
   put-lines room.Full false message v puts = (says.discarded _, tt)
   put-lines room.TooLong overwriting message v puts = (says.too_long _, tt)
   put-lines room.NumbersSpent overwriting message v puts = tt
@@ -48,21 +49,21 @@ module _ {Says : Happening → Type 0} (says : HasSpoolNotes Says) where
       left : Booked
       left = record {
         next = record v { first = v.first + v.len; len = 0; works = owed v work.Purge };
-        lines = Happening.Leaving v.first Purged ∷ Happening.Gone v.first ∷ [];
+        lines = Happening.Leaving v.first Purged None ∷ Happening.Gone v.first ∷ [];
       }
 
       go : (none : Bool) → AllAre Says (if none then quiet v else left).lines
       go true = tt
-      go false = (says.leaving v.first Purged, (says.gone v.first, tt))
+      go false = (says.leaving v.first Purged None, (says.gone v.first, tt))
 
   pub confirmed-lines : (v : LedgerView) → AllAre Says (confirmed v).lines
   confirmed-lines v = go (is_oldest_tried v)
     where
       go : (oldest : Bool)
           → AllAre Says
-          (if oldest then and_then (oldest_out Confirmed v) (λ w. quiet (with_each counted w))
+          (if oldest then and_then (oldest_out Confirmed None v) (λ w. quiet (with_each counted w))
           else quiet (with_each settled v)).lines
-      go true = (says.leaving v.first Confirmed, (says.gone v.first, tt))
+      go true = (says.leaving v.first Confirmed None, (says.gone v.first, tt))
       go false = tt
 
   pub activated-lines : (enabled : Bool) (v : LedgerView) → AllAre Says (activated enabled v).lines

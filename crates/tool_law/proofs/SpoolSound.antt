@@ -12,8 +12,8 @@ use Rattle.gem_spool.specs.declared.works.Work.{Work}
 use Rattle.gem_spool.specs.declared.works.Work.TheVariants as work
 use Rattle.gem_spool.specs.Standing.{Standing}
 use Rattle.gem_spool.specs.Works.{list_after, standing_after, standings_after}
-use Rattle.spool_slots.specs.File.{SpoolFile}
-use Rattle.spool_slots.specs.Slot.{Message}
+use Rattle.spool_file.specs.File.{SpoolFile}
+use Rattle.spool_file.specs.Slot.{Message}
 use Rattle.trace_log.specs.declared.names.Cause.{Cause}
 use Rattle.trace_log.specs.declared.names.Cause.TheVariants.{Confirmed, Overwritten, Purged}
 use Rattle.trace_log.specs.Log.{Happening}
@@ -142,9 +142,9 @@ module _ {slots : ℕ} {stood : Stand} where
     plain = (tt, (tt, tt));
   }
 
-  oldest-good : (cause : Cause) (v : LedgerView) → IsGoodLedger slots stood v → IsGoodBooked slots stood
-      (oldest_out cause v)
-  oldest-good cause v is = record {
+  oldest-good : (cause : Cause) (for_one : Option Spooled) (v : LedgerView) → IsGoodLedger slots stood v
+      → IsGoodBooked slots stood (oldest_out cause for_one v)
+  oldest-good cause for_one v is = record {
     next = record {
       waiting = is.waiting;
       works = owes-more v work.DropOldest is tt;
@@ -160,7 +160,7 @@ module _ {slots : ℕ} {stood : Stand} where
       left : Booked
       left = record {
         next = record v { first = v.first + v.len; len = 0; works = owed v work.Purge };
-        lines = Happening.Leaving v.first Purged ∷ Happening.Gone v.first ∷ [];
+        lines = Happening.Leaving v.first Purged None ∷ Happening.Gone v.first ∷ [];
       }
 
       go : (none : Bool) → IsGoodBooked slots stood (if none then quiet v else left)
@@ -181,7 +181,7 @@ module _ {slots : ℕ} {stood : Stand} where
       → IfSome (stored_by found overwrites message v) (IsGoodBooked slots stood)
   stored-by-good room.Fits overwrites message v can short is = put-good message v can short is
   stored-by-good room.Full true message v can short is =
-      booked-then (oldest_out Overwritten v) (put message) (oldest-good Overwritten v is)
+      booked-then (oldest_out Overwritten (Some message) v) (put message) (oldest-good Overwritten (Some message) v is)
       (λ w so. put-good message w can short so)
   stored-by-good room.Full false message v can short is = record { next = is; plain = (tt, tt) }
   stored-by-good room.TooLong overwrites message v can short is = record { next = is; plain = (tt, tt) }
@@ -251,10 +251,10 @@ module _ {slots : ℕ} {stood : Stand} where
     where
       go : (oldest : Bool)
           → IsGoodBooked slots stood
-          (if oldest then and_then (oldest_out Confirmed v) (λ w. quiet (with_each counted w))
+          (if oldest then and_then (oldest_out Confirmed None v) (λ w. quiet (with_each counted w))
           else quiet (with_each settled v))
       go true =
-          booked-then (oldest_out Confirmed v) (λ w. quiet (with_each counted w)) (oldest-good Confirmed v is)
+          booked-then (oldest_out Confirmed None v) (λ w. quiet (with_each counted w)) (oldest-good Confirmed None v is)
           (λ w so. quiet-good (with_each counted w)
           (unload-good (option_map counted w.unload) w (counted-waits w.unload) so))
       go false =

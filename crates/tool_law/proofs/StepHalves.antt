@@ -39,7 +39,7 @@ use Rattle.tool_step.specs.Step.{beginning, delay_timer, end_plan, failed_turn, 
 use Rattle.equipment_tables.specs.Tables.{most_transmitted}
 use Rattle.spool_ledger.specs.declared.ledger.Stand.{Stand}
 use Rattle.spool_ledger.specs.Unloading.{after_next, next_number as next_unloaded, taken_up}
-use Rattle.spool_slots.specs.Slot.{Message as Kept}
+use Rattle.spool_file.specs.Slot.{Message as Kept}
 use Rattle.tool_law.specs.Tried.{AreInTurn, newest_of}
 use Rattle.tool_law.proofs.TriedParts.{AllKeep, NodeTried, SomeTried, all-both, all-many, calls-less, drop-keeps, led-at, mild-keeps, offer-keeps, parts-then, taking-at, turn-at}
 use Rattle.tool_law.proofs.TriedCourse.{take-at, tick-at}

@@ -18,6 +18,7 @@ use Rattle.trace_log.specs.Log.Happening.{Try}
 use Rattle.message_end.specs.Core.{EndView, MayNote, gives, offers, with_end, with_outgoing}
 use Rattle.message_end.specs.Doings.{AreLawful, Doing, IsNoSend, line_of, own_of}
 use Rattle.message_end.specs.Doings.Doing.{Calls, Does, Gives, Says}
+use Rattle.message_end.specs.Ends.IsOfWorld.{of_power, of_wrote}
 use Rattle.message_end.specs.Ends.{IsOfWorld}
 use Rattle.message_end.specs.History.{IsHistoryOf, noted_in, notes_of_own}
 use Rattle.message_end.specs.LineCalls.{IsOffer, calls_in}
@@ -98,7 +99,7 @@ none-behind (x ∷ xs) ys is = absurd (cc)
 -- a note that a command may bring, and that is of no try
 abbrev pub IsFine : Happening → Type 0
 IsFine (Happening.EquipmentStarted found base) = ⊥
-IsFine Happening.HostStarted = ⊥
+IsFine (Happening.HostStarted journal) = ⊥
 IsFine (Happening.Sent message) = ⊥
 IsFine (Happening.Received message) = ⊥
 IsFine (Happening.Try number system) = ⊥
@@ -107,82 +108,17 @@ IsFine _ = Unit {0}
 
 pub fine-both : (what : Happening) → IsFine what → MayNote what × IsNoTry (change_of what)
 fine-both (Happening.EquipmentStarted found base) fine = absurd fine
-fine-both Happening.HostStarted fine = absurd fine
-fine-both Happening.Power fine = (tt, tt)
-fine-both Happening.Closed fine = (tt, tt)
+fine-both (Happening.HostStarted journal) fine = absurd fine
 fine-both (Happening.Sent message) fine = absurd fine
 fine-both (Happening.Received message) fine = absurd fine
-fine-both (Happening.Wrote characters) fine = (tt, tt)
-fine-both (Happening.Comms state) fine = (tt, tt)
-fine-both (Happening.Control state) fine = (tt, tt)
-fine-both (Happening.Spool active) fine = (tt, tt)
-fine-both (Happening.Set vid) fine = (tt, tt)
-fine-both (Happening.Event ceid dataid) fine = (tt, tt)
-fine-both (Happening.Alarm alid set) fine = (tt, tt)
-fine-both (Happening.Carried rcmd) fine = (tt, tt)
-fine-both (Happening.Display tid text) fine = (tt, tt)
-fine-both Happening.Refused fine = (tt, tt)
-fine-both (Happening.Storing number message) fine = (tt, tt)
-fine-both (Happening.Stored number) fine = (tt, tt)
-fine-both (Happening.Leaving number cause) fine = (tt, tt)
-fine-both (Happening.Gone number) fine = (tt, tt)
 fine-both (Happening.Try number system) fine = absurd fine
-fine-both (Happening.Duplicate header) fine = (tt, tt)
-fine-both (Happening.Unexpected header) fine = (tt, tt)
-fine-both (Happening.Foreign header) fine = (tt, tt)
-fine-both (Happening.TooLongBlock header) fine = (tt, tt)
-fine-both (Happening.Crowded header) fine = (tt, tt)
-fine-both (Happening.DroppedByT4 header) fine = (tt, tt)
-fine-both (Happening.Failed title) fine = (tt, tt)
-fine-both (Happening.TimedOut title) fine = (tt, tt)
-fine-both (Happening.Stranger title) fine = (tt, tt)
-fine-both (Happening.Dropped name) fine = (tt, tt)
-fine-both (Happening.Denied name) fine = (tt, tt)
-fine-both (Happening.Discarded name) fine = (tt, tt)
-fine-both (Happening.TooLong name) fine = (tt, tt)
-fine-both (Happening.Full name) fine = (tt, tt)
-fine-both (Happening.Recorded past) fine = (tt, tt)
 fine-both Happening.StepEnded fine = absurd fine
+fine-both what fine = (tt, tt)
 
 -- what the world notes of an end is of no try
 pub world-free : (what : Happening) → IsOfWorld what → IsNoTry (change_of what)
-world-free (Happening.EquipmentStarted found base) world = absurd world
-world-free Happening.HostStarted world = absurd world
-world-free Happening.Power world = tt
-world-free Happening.Closed world = absurd world
-world-free (Happening.Sent message) world = absurd world
-world-free (Happening.Received message) world = absurd world
-world-free (Happening.Wrote characters) world = tt
-world-free (Happening.Comms state) world = absurd world
-world-free (Happening.Control state) world = absurd world
-world-free (Happening.Spool active) world = absurd world
-world-free (Happening.Set vid) world = absurd world
-world-free (Happening.Event ceid dataid) world = absurd world
-world-free (Happening.Alarm alid set) world = absurd world
-world-free (Happening.Carried rcmd) world = absurd world
-world-free (Happening.Display tid text) world = absurd world
-world-free Happening.Refused world = absurd world
-world-free (Happening.Storing number message) world = absurd world
-world-free (Happening.Stored number) world = absurd world
-world-free (Happening.Leaving number cause) world = absurd world
-world-free (Happening.Gone number) world = absurd world
-world-free (Happening.Try number system) world = absurd world
-world-free (Happening.Duplicate header) world = absurd world
-world-free (Happening.Unexpected header) world = absurd world
-world-free (Happening.Foreign header) world = absurd world
-world-free (Happening.TooLongBlock header) world = absurd world
-world-free (Happening.Crowded header) world = absurd world
-world-free (Happening.DroppedByT4 header) world = absurd world
-world-free (Happening.Failed title) world = absurd world
-world-free (Happening.TimedOut title) world = absurd world
-world-free (Happening.Stranger title) world = absurd world
-world-free (Happening.Dropped name) world = absurd world
-world-free (Happening.Denied name) world = absurd world
-world-free (Happening.Discarded name) world = absurd world
-world-free (Happening.TooLong name) world = absurd world
-world-free (Happening.Full name) world = absurd world
-world-free (Happening.Recorded past) world = absurd world
-world-free Happening.StepEnded world = absurd world
+world-free _ (of_wrote characters) = tt
+world-free _ of_power = tt
 
 -- ---- doings of no try
 
@@ -190,7 +126,7 @@ pub may-say : (own : List Own) (tries : List ℕ) (change : Change) → IsNoTry 
 may-say own tries (Finds found) plain = tt
 may-say own tries (Stores number message) plain = tt
 may-say own tries (HasStored number) plain = tt
-may-say own tries (Leaves number why) plain = tt
+may-say own tries (Leaves number why room_for) plain = tt
 may-say own tries (HasGone number) plain = tt
 may-say own tries (Tries number system) plain = absurd plain
 may-say own tries (Sends message) plain = tt
@@ -201,7 +137,7 @@ pub same-tries : (change : Change) (tries : List ℕ) → IsNoTry change → tri
 same-tries (Finds found) tries plain = refl
 same-tries (Stores number message) tries plain = refl
 same-tries (HasStored number) tries plain = refl
-same-tries (Leaves number why) tries plain = refl
+same-tries (Leaves number why room_for) tries plain = refl
 same-tries (HasGone number) tries plain = refl
 same-tries (Tries number system) tries plain = absurd plain
 same-tries (Sends message) tries plain = refl

@@ -9,7 +9,7 @@ use Rattle.message_end.proofs.Growing.{behind-both}
 use Rattle.spool_law.specs.Shelf.{Change, Shelf, change_of, shelf_of}
 use Rattle.spool_ledger.specs.Ledger.{IsLedger, LedgerView, next_of, owed, stood_count}
 use Rattle.spool_ledger.specs.declared.ledger.Stand.{Stand}
-use Rattle.spool_slots.specs.Slot.{Message}
+use Rattle.spool_file.specs.Slot.{Message}
 use Rattle.trace_log.specs.Log.{Happening, is_before_change}
 use Rattle.spool_works.specs.DiskWorks.{DiskWork, behind_change, up_to_change}
 use Rattle.spool_works.specs.Found.{found_in}
@@ -21,47 +21,12 @@ use Rattle.spool_works.specs.WorkLosses.{MayLeaveAt, storing_at}
 
 abbrev is_change : Change → Bool
 is_change (Change.Stores number message) = true
-is_change (Change.Leaves number why) = true
+is_change (Change.Leaves number why room_for) = true
 is_change _ = false
 
 before-change : (what : Happening) → is_before_change what ≡ is_change (change_of what)
-before-change (Happening.EquipmentStarted found base) = refl
-before-change Happening.HostStarted = refl
-before-change Happening.Power = refl
-before-change Happening.Closed = refl
-before-change (Happening.Sent message) = refl
-before-change (Happening.Received message) = refl
-before-change (Happening.Wrote characters) = refl
-before-change (Happening.Comms state) = refl
-before-change (Happening.Control state) = refl
-before-change (Happening.Spool active) = refl
-before-change (Happening.Set vid) = refl
-before-change (Happening.Event ceid dataid) = refl
-before-change (Happening.Alarm alid set) = refl
-before-change (Happening.Carried rcmd) = refl
-before-change (Happening.Display tid text) = refl
-before-change Happening.Refused = refl
 before-change (Happening.Storing number message) = refl
-before-change (Happening.Stored number) = refl
-before-change (Happening.Leaving number why) = refl
-before-change (Happening.Gone number) = refl
-before-change (Happening.Try number system) = refl
-before-change (Happening.Duplicate header) = refl
-before-change (Happening.Unexpected header) = refl
-before-change (Happening.Foreign header) = refl
-before-change (Happening.TooLongBlock header) = refl
-before-change (Happening.Crowded header) = refl
-before-change (Happening.DroppedByT4 header) = refl
-before-change (Happening.Failed title) = refl
-before-change (Happening.TimedOut title) = refl
-before-change (Happening.Stranger title) = refl
-before-change (Happening.Dropped name) = refl
-before-change (Happening.Denied name) = refl
-before-change (Happening.Discarded name) = refl
-before-change (Happening.TooLong name) = refl
-before-change (Happening.Full name) = refl
-before-change (Happening.Recorded past) = refl
-before-change Happening.StepEnded = refl
+before-change what = refl
 
 -- what leaves the messages that stand as they are
 abbrev pub LeavesStanding : Change → Type 0
@@ -82,7 +47,7 @@ quiet-change what leaves = before-change what ∙ go (change_of what) leaves
     go (Change.Finds found) leaves = absurd leaves
     go (Change.Stores number message) leaves = absurd leaves
     go (Change.HasStored number) leaves = absurd leaves
-    go (Change.Leaves number why) leaves = absurd leaves
+    go (Change.Leaves number why room_for) leaves = absurd leaves
     go (Change.HasGone number) leaves = absurd leaves
 
 abbrev pub has_change : List Happening → Bool

@@ -1,6 +1,6 @@
 -- What holds of the equipment whatever it is told.
 use Rattle.std.specs.Prelude.{◌≡◌, ℕ, List}
-use Rattle.spool_slots.specs.File.{SpoolFile}
+use Rattle.spool_file.specs.File.{SpoolFile}
 use Rattle.message_end.specs.Doings.{Doing}
 use Rattle.message_end.specs.Ends.{KeepsLaw}
 use Rattle.message_end.specs.History.{IsHistoryOf}

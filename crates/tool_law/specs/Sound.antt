@@ -2,7 +2,7 @@
 use Rattle.std.specs.Prelude.{◌≡◌, ℕ, ◌<◌, ◌≤◌, ◌%◌, ◌==◌, true, All, IfSome, List, Option, length}
 use Rattle.gem_spool.specs.declared.works.Work.{Work}
 use Rattle.gem_spool.specs.declared.works.Work.TheVariants as work
-use Rattle.spool_slots.specs.Slot.{Message}
+use Rattle.spool_file.specs.Slot.{Message}
 use Rattle.trace_log.specs.Names.{Spooled}
 use Rattle.message_end.specs.Core.{IsText}
 use Rattle.equipment_tables.specs.declared.plan.EquipmentPlan.{EquipmentPlan}

@@ -319,7 +319,7 @@ module _ (plan : EquipmentPlan) (said : List ToolCommand) (before : List Happeni
       → IfSome (stored_by found overwriting message v) (λ (booked : Booked). AreSaid notes booked.lines)
   stored-said room.Fits overwriting message v notes kept = (inr (next_of v, message, refl, kept), (inl tt, tt))
   stored-said room.Full true message v notes kept =
-      (inl tt, (inl tt, (inr (next_of (oldest_out Overwritten v).next, message, refl, kept), (inl tt, tt))))
+      (inl tt, (inl tt, (inr (next_of (oldest_out Overwritten (Some message) v).next, message, refl, kept), (inl tt, tt))))
   stored-said room.Full false message v notes kept = (inl tt, tt)
   stored-said room.TooLong overwriting message v notes kept = (inl tt, tt)
   stored-said room.NumbersSpent overwriting message v notes kept = tt

@@ -143,72 +143,17 @@ quietly what notes past events reports next tries other right none = record {
 
 pub quiet-note : (what : Happening) → IsQuietNote what → (notes : List Happening) → IsAsBefore notes (what ∷ notes)
 quiet-note (Happening.EquipmentStarted found base) quiet notes = absurd quiet
-quiet-note Happening.HostStarted quiet notes =
-    quietly Happening.HostStarted notes refl refl refl refl refl refl (λ plan. tt) (λ plan. refl)
-quiet-note Happening.Power quiet notes =
-    quietly Happening.Power notes refl refl refl refl refl refl (λ plan. tt) (λ plan. refl)
-quiet-note Happening.Closed quiet notes =
-    quietly Happening.Closed notes refl refl refl refl refl refl (λ plan. tt) (λ plan. refl)
 quiet-note (Happening.Sent message) quiet notes = none-sent message (none-of message quiet.0) quiet.1 notes
-quiet-note (Happening.Received message) quiet notes =
-    quietly (Happening.Received message) notes refl refl refl refl refl refl (λ plan. tt) (λ plan. refl)
-quiet-note (Happening.Wrote characters) quiet notes =
-    quietly (Happening.Wrote characters) notes refl refl refl refl refl refl (λ plan. tt) (λ plan. refl)
-quiet-note (Happening.Comms state) quiet notes =
-    quietly (Happening.Comms state) notes refl refl refl refl refl refl (λ plan. tt) (λ plan. refl)
-quiet-note (Happening.Control state) quiet notes =
-    quietly (Happening.Control state) notes refl refl refl refl refl refl (λ plan. tt) (λ plan. refl)
-quiet-note (Happening.Spool active) quiet notes =
-    quietly (Happening.Spool active) notes refl refl refl refl refl refl (λ plan. tt) (λ plan. refl)
 quiet-note (Happening.Set vid) quiet notes = absurd quiet
 quiet-note (Happening.Event ceid dataid) quiet notes = absurd quiet
 quiet-note (Happening.Alarm alid set) quiet notes = absurd quiet
-quiet-note (Happening.Carried rcmd) quiet notes =
-    quietly (Happening.Carried rcmd) notes refl refl refl refl refl refl (λ plan. tt) (λ plan. refl)
-quiet-note (Happening.Display tid text) quiet notes =
-    quietly (Happening.Display tid text) notes refl refl refl refl refl refl (λ plan. tt) (λ plan. refl)
 quiet-note Happening.Refused quiet notes = absurd quiet
 quiet-note (Happening.Storing number message) quiet notes =
     quietly (Happening.Storing number message) notes refl refl refl refl refl refl
     (λ plan is. absurd (cc)) (λ plan. refl)
-quiet-note (Happening.Stored number) quiet notes =
-    quietly (Happening.Stored number) notes refl refl refl refl refl refl (λ plan. tt) (λ plan. refl)
-quiet-note (Happening.Leaving number cause) quiet notes =
-    quietly (Happening.Leaving number cause) notes refl refl refl refl refl refl (λ plan. tt) (λ plan. refl)
-quiet-note (Happening.Gone number) quiet notes =
-    quietly (Happening.Gone number) notes refl refl refl refl refl refl (λ plan. tt) (λ plan. refl)
 quiet-note (Happening.Try number system) quiet notes = absurd quiet
-quiet-note (Happening.Duplicate header) quiet notes =
-    quietly (Happening.Duplicate header) notes refl refl refl refl refl refl (λ plan. tt) (λ plan. refl)
-quiet-note (Happening.Unexpected header) quiet notes =
-    quietly (Happening.Unexpected header) notes refl refl refl refl refl refl (λ plan. tt) (λ plan. refl)
-quiet-note (Happening.Foreign header) quiet notes =
-    quietly (Happening.Foreign header) notes refl refl refl refl refl refl (λ plan. tt) (λ plan. refl)
-quiet-note (Happening.TooLongBlock header) quiet notes =
-    quietly (Happening.TooLongBlock header) notes refl refl refl refl refl refl (λ plan. tt) (λ plan. refl)
-quiet-note (Happening.Crowded header) quiet notes =
-    quietly (Happening.Crowded header) notes refl refl refl refl refl refl (λ plan. tt) (λ plan. refl)
-quiet-note (Happening.DroppedByT4 header) quiet notes =
-    quietly (Happening.DroppedByT4 header) notes refl refl refl refl refl refl (λ plan. tt) (λ plan. refl)
-quiet-note (Happening.Failed title) quiet notes =
-    quietly (Happening.Failed title) notes refl refl refl refl refl refl (λ plan. tt) (λ plan. refl)
-quiet-note (Happening.TimedOut title) quiet notes =
-    quietly (Happening.TimedOut title) notes refl refl refl refl refl refl (λ plan. tt) (λ plan. refl)
-quiet-note (Happening.Stranger title) quiet notes =
-    quietly (Happening.Stranger title) notes refl refl refl refl refl refl (λ plan. tt) (λ plan. refl)
-quiet-note (Happening.Dropped name) quiet notes =
-    quietly (Happening.Dropped name) notes refl refl refl refl refl refl (λ plan. tt) (λ plan. refl)
-quiet-note (Happening.Denied name) quiet notes =
-    quietly (Happening.Denied name) notes refl refl refl refl refl refl (λ plan. tt) (λ plan. refl)
-quiet-note (Happening.Discarded name) quiet notes =
-    quietly (Happening.Discarded name) notes refl refl refl refl refl refl (λ plan. tt) (λ plan. refl)
-quiet-note (Happening.TooLong name) quiet notes =
-    quietly (Happening.TooLong name) notes refl refl refl refl refl refl (λ plan. tt) (λ plan. refl)
-quiet-note (Happening.Full name) quiet notes =
-    quietly (Happening.Full name) notes refl refl refl refl refl refl (λ plan. tt) (λ plan. refl)
 quiet-note (Happening.Recorded past) quiet notes = absurd quiet
-quiet-note Happening.StepEnded quiet notes =
-    quietly Happening.StepEnded notes refl refl refl refl refl refl (λ plan. tt) (λ plan. refl)
+quiet-note what quiet notes = quietly what notes refl refl refl refl refl refl (λ plan. tt) (λ plan. refl)
 
 -- ---- notes behind notes
 

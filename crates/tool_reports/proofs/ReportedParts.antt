@@ -82,44 +82,9 @@ reported-before plan (what ∷ rest) before is = (reported-before plan rest (wha
 -- what is noted before a change brings nothing
 change-due : (plan : EquipmentPlan) (what : Happening) (before : List Happening) → is_before_change what ≡ true
     → due_behind plan (what ∷ before) ≡ None
-change-due plan (Happening.Storing number message) before is = refl
-change-due plan (Happening.Leaving number why) before is = refl
-change-due plan (Happening.EquipmentStarted found base) before is = refl
-change-due plan Happening.HostStarted before is = refl
-change-due plan Happening.Power before is = refl
-change-due plan Happening.Closed before is = refl
-change-due plan (Happening.Sent message) before is = refl
-change-due plan (Happening.Received message) before is = refl
-change-due plan (Happening.Wrote characters) before is = refl
-change-due plan (Happening.Comms state) before is = refl
-change-due plan (Happening.Control state) before is = refl
-change-due plan (Happening.Spool active) before is = refl
-change-due plan (Happening.Set vid) before is = refl
-change-due plan (Happening.Event ceid dataid) before is = refl
-change-due plan (Happening.Alarm alid set) before is = refl
-change-due plan (Happening.Carried rcmd) before is = refl
-change-due plan (Happening.Display tid text) before is = refl
-change-due plan Happening.Refused before is = refl
-change-due plan (Happening.Stored number) before is = refl
-change-due plan (Happening.Gone number) before is = refl
-change-due plan (Happening.Try number system) before is = refl
-change-due plan (Happening.Duplicate header) before is = refl
-change-due plan (Happening.Unexpected header) before is = refl
-change-due plan (Happening.Foreign header) before is = refl
-change-due plan (Happening.TooLongBlock header) before is = refl
-change-due plan (Happening.Crowded header) before is = refl
-change-due plan (Happening.DroppedByT4 header) before is = refl
-change-due plan (Happening.Failed title) before is = refl
-change-due plan (Happening.TimedOut title) before is = refl
-change-due plan (Happening.Stranger title) before is = refl
-change-due plan (Happening.Dropped name) before is = refl
-change-due plan (Happening.Denied name) before is = refl
-change-due plan (Happening.Discarded name) before is = refl
-change-due plan (Happening.TooLong name) before is = refl
-change-due plan (Happening.Full name) before is = refl
-change-due plan Happening.StepEnded before is = refl
 change-due plan (Happening.Recorded (Past.Asked request)) before is = refl
 change-due plan (Happening.Recorded (Past.Commanded command)) before is = absurd (cc)
+change-due plan what before is = refl
 
 -- nor does all that is noted up to it, or all, if there is no change
 up-due : (plan : EquipmentPlan) (lines past : List Happening) → due_behind plan (noted_behind lines past) ≡ None

@@ -1,6 +1,6 @@
 -- What holds of the reports of the equipment whatever it meets.
 use Rattle.std.specs.Prelude.{List}
-use Rattle.spool_slots.specs.File.{SpoolFile}
+use Rattle.spool_file.specs.File.{SpoolFile}
 use Rattle.message_end.specs.Course.{Meeting, course_of}
 use Rattle.trace_log.specs.declared.commands.ToolCommand.{ToolCommand}
 use Rattle.equipment_tables.specs.declared.plan.EquipmentPlan.{EquipmentPlan}

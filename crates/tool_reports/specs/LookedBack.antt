@@ -1,6 +1,6 @@
 -- That the equipment's tables are what its history makes of the plan's.
 use Rattle.std.specs.Prelude.{◌≡◌, ℕ, List}
-use Rattle.spool_slots.specs.File.{SpoolFile}
+use Rattle.spool_file.specs.File.{SpoolFile}
 use Rattle.trace_log.specs.declared.commands.ToolCommand.{ToolCommand}
 use Rattle.message_end.specs.Core.{Went}
 use Rattle.message_end.specs.Core.Went.{Goes, Spent}

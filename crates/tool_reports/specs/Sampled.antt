@@ -5,7 +5,6 @@ use Rattle.std.specs.Prelude.{◌≡◌, ◌≤◌, ◌&&◌, ℕ, Bool, not, na
 use Rattle.std.specs.List.{cons_option, list_any}
 use Rattle.gem_shapes.specs.declared.request.Request.{Request}
 use Rattle.gem_shapes.specs.declared.request.Request.TheVariants as request
-use Rattle.gem_spool.specs.Rule.{is_spoolable}
 use Rattle.gem_trace.specs.declared.request.Tiaack.{Tiaack}
 use Rattle.gem_trace.specs.declared.request.Tiaack.TheVariants as tiaack
 use Rattle.gem_trace.specs.declared.request.TraceRequest.{TraceRequest}
@@ -18,6 +17,7 @@ use Rattle.secs_items.specs.declared.item.Item.{Item}
 use Rattle.secs_items.specs.Encoding.{encode_fault}
 use Rattle.secs_items.specs.Spelling.{shortest_spelling}
 use Rattle.trace_log.specs.Log.{Happening, Past}
+use Rattle.spool_law.specs.Listing.{AllStoredAreSpoolable}
 use Rattle.message_end.specs.Own.{Has}
 use Rattle.equipment_tables.specs.declared.plan.EquipmentPlan.{EquipmentPlan}
 use Rattle.equipment_tables.specs.Requests.{request_of}
@@ -98,13 +98,6 @@ HaveWait [] = Unit {0}
 HaveWait (Happening.Sent message ∷ before) = (is_data message before ≡ true → message.wait ≡ true) × HaveWait before
 HaveWait (_ ∷ before) = HaveWait before
 
--- what is put into the spool is S5F1, S6F11 or S10F1, and so no S6F1 (this profile)
-abbrev pub PutsAreSpoolable : List Happening → Type 0
-PutsAreSpoolable [] = Unit {0}
-PutsAreSpoolable (Happening.Storing number message ∷ before) =
-    (is_spoolable message.stream message.function ≡ true) × PutsAreSpoolable before
-PutsAreSpoolable (_ ∷ before) = PutsAreSpoolable before
-
 -- ---- what is said of them
 
 -- it was due in one of these steps
@@ -119,4 +112,4 @@ pub record AreSampled (plan : EquipmentPlan) (notes : List Happening) (steps : L
   pub wait : HaveWait notes
   pub each : (body : List ℕ) → Has (datas_in notes) body → IsOfTrace plan body steps
   pub once : (body : List ℕ) → count_of body (datas_in notes) ≤ count_due plan body steps
-  pub spoolable : PutsAreSpoolable notes
+  pub spoolable : AllStoredAreSpoolable notes

@@ -1,7 +1,7 @@
 -- Turns that leave the spool as it is.
 use Rattle.std.proofs.Common.{◌≡◌, refl, sym, ap, subst, ◌∙◌, inl, inr, ◌⊎◌, arith, Bool, false, List, [], ◌∷◌, ◌++◌, Some}
 use Rattle.message_flow.specs.declared.message.Message.{Message}
-use Rattle.spool_slots.specs.Slot.{Message as Put}
+use Rattle.spool_file.specs.Slot.{Message as Put}
 use Rattle.trace_log.specs.Log.{Happening}
 use Rattle.message_end.specs.Core.{Command, EndView, Went, carried, carry}
 use Rattle.message_end.specs.Course.{noted_behind}
@@ -77,7 +77,7 @@ one-calm hears what old calm uncounted =
     leaves (Change.Finds found) calm = absurd calm
     leaves (Change.Stores number message) calm = absurd calm
     leaves (Change.HasStored number) calm = absurd calm
-    leaves (Change.Leaves number why) calm = absurd calm
+    leaves (Change.Leaves number why room_for) calm = absurd calm
     leaves (Change.HasGone number) calm = absurd calm
     leaves (Change.Tries number system) calm = absurd calm
 
@@ -89,7 +89,7 @@ one-calm hears what old calm uncounted =
     may policy (Change.Finds found) calm = absurd calm
     may policy (Change.Stores number message) calm = absurd calm
     may policy (Change.HasStored number) calm = absurd calm
-    may policy (Change.Leaves number why) calm = absurd calm
+    may policy (Change.Leaves number why room_for) calm = absurd calm
     may policy (Change.HasGone number) calm = absurd calm
     may policy (Change.Tries number system) calm = absurd calm
 
@@ -102,7 +102,7 @@ one-calm hears what old calm uncounted =
     same (Change.Finds found) calm = absurd calm
     same (Change.Stores number message) calm = absurd calm
     same (Change.HasStored number) calm = absurd calm
-    same (Change.Leaves number why) calm = absurd calm
+    same (Change.Leaves number why room_for) calm = absurd calm
     same (Change.HasGone number) calm = absurd calm
     same (Change.Tries number system) calm = absurd calm
 
@@ -114,7 +114,7 @@ one-calm hears what old calm uncounted =
     since (Change.Finds found) calm deaf = absurd calm
     since (Change.Stores number message) calm deaf = absurd calm
     since (Change.HasStored number) calm deaf = absurd calm
-    since (Change.Leaves number why) calm deaf = absurd calm
+    since (Change.Leaves number why room_for) calm deaf = absurd calm
     since (Change.HasGone number) calm deaf = absurd calm
     since (Change.Tries number system) calm deaf = absurd calm
 
@@ -126,7 +126,7 @@ one-calm hears what old calm uncounted =
     more (Change.Finds found) calm message has = absurd calm
     more (Change.Stores number new) calm message has = absurd calm
     more (Change.HasStored number) calm message has = absurd calm
-    more (Change.Leaves number why) calm message has = absurd calm
+    more (Change.Leaves number why room_for) calm message has = absurd calm
     more (Change.HasGone number) calm message has = absurd calm
     more (Change.Tries number system) calm message has = absurd calm
 

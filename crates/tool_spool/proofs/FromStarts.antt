@@ -169,7 +169,7 @@ finds-nothing policy (Change.Finds found) is = record {
 }
 finds-nothing policy (Change.Stores number message) is = absurd is
 finds-nothing policy (Change.HasStored number) is = absurd is
-finds-nothing policy (Change.Leaves number why) is = absurd is
+finds-nothing policy (Change.Leaves number why room_for) is = absurd is
 finds-nothing policy (Change.HasGone number) is = absurd is
 finds-nothing policy (Change.Tries number system) is = absurd is
 finds-nothing policy (Change.Sends message) is = absurd is

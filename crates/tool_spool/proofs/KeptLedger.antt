@@ -1,5 +1,5 @@
 -- What calls of the ledger keep of the spool as it is noted.
-use Rattle.std.proofs.Common.{◌≡◌, refl, sym, ap, subst, ◌∙◌, inl, inr, arith, ◌<◌, ◌+◌, ◌%◌, ◌==◌, ◌&&◌, Bool, true, false, ℕ, List, [], ◌∷◌, length, Option, Some, if◌then◌else◌}
+use Rattle.std.proofs.Common.{◌≡◌, refl, sym, ap, subst, ◌∙◌, inl, inr, arith, ◌<◌, ◌+◌, ◌%◌, ◌==◌, ◌&&◌, Bool, true, false, ℕ, List, [], ◌∷◌, length, Option, Some, None, if◌then◌else◌}
 use Rattle.std.proofs.lemmas.Bool.Decides.{nat_tests}
 use Rattle.std.proofs.lemmas.List.Elements.{All-cons, All-nil}
 use Rattle.std.specs.Prelude.{unwrap_or}
@@ -12,7 +12,7 @@ use Rattle.spool_ledger.specs.Laws.{Call, MayCall, brings}
 use Rattle.spool_ledger.specs.Ledger.{Booked, IsLedger, LedgerView, owed, quiet, room_for}
 use Rattle.spool_ledger.specs.Storing.{all_out, stored, stored_by}
 use Rattle.spool_ledger.proofs.Following.{calls_come}
-use Rattle.spool_slots.specs.Slot.{Message as Put}
+use Rattle.spool_file.specs.Slot.{Message as Put}
 use Rattle.trace_log.specs.InStep.{received_in_step}
 use Rattle.trace_log.specs.Log.{Happening}
 use Rattle.trace_log.specs.Log.Happening.{Gone, Leaving}
@@ -29,7 +29,7 @@ use Rattle.tool_spool.proofs.UnloadOpen.{Moves}
 abbrev all_left : LedgerView → Booked
 all_left v = record {
   next = record v { first = v.first + v.len; len = 0; works = owed v work.Purge };
-  lines = Leaving v.first Purged ∷ Gone v.first ∷ [];
+  lines = Leaving v.first Purged None ∷ Gone v.first ∷ [];
 }
 
 -- it is a primary (SEMI E5, function; SEMI E4, stream)
@@ -93,9 +93,10 @@ module _ (plan : EquipmentPlan) (slots : ℕ) (list : List Put) (base : List Hap
   module _ (v : LedgerView) (notes : List Happening) (tables : TablesState) (is : IsLedger v) (all : v.slots ≡ slots)
       (shelved : IsShelved (policy_of plan slots) v list base notes) (at : tables_in plan notes ≡ tables)
     where
-      may-overwrite : overwrites tables ≡ true → (length (shelf_of notes).stands == v.slots) ≡ true
-          → ((length (shelf_of notes).stands == slots) && overwrites (tables_in plan notes)) ≡ true
-      may-overwrite may full =
+      may-overwrite : (message : Spooled) → overwrites tables ≡ true
+          → (length (shelf_of notes).stands == v.slots) ≡ true
+          → (policy_of plan slots).overwrites notes (shelf_of notes).stands message ≡ true
+      may-overwrite message may full =
           rw (sym (ap (λ (n : ℕ). length (shelf_of notes).stands == n) all) ∙ full)
           (ap (λ (t : TablesState). overwrites t) at ∙ may)
 
@@ -112,7 +113,7 @@ module _ (plan : EquipmentPlan) (slots : ℕ) (list : List Put) (base : List Hap
             all = so.0;
             shelved =
                 stored-shelved (policy_of plan slots) v list base notes message is shelved (overwrites tables) booked
-                may-overwrite same;
+                (may-overwrite message) same;
             told = so.1;
             tables = so.2;
             moves = so.3;
@@ -125,7 +126,8 @@ module _ (plan : EquipmentPlan) (slots : ℕ) (list : List Put) (base : List Hap
       all-kept may in_step = record {
         is = one-call Call.Purge v is tt;
         all = still.0;
-        shelved = all-shelved (policy_of plan slots) v list base notes is shelved may in_step;
+        shelved =
+            all-shelved (policy_of plan slots) v list base notes is shelved (λ some. (may some, refl)) in_step;
         told = still.1;
         tables = still.2;
         moves = still.3;

@@ -31,7 +31,7 @@ use Rattle.message_end.specs.Parts.{Node, after_parts, after_turn, closes, core_
 use Rattle.message_end.proofs.Parts.{after-take, OnEither, either-then, either-less}
 use Rattle.spool_ledger.specs.Activity.{rested}
 use Rattle.spool_ledger.specs.Ledger.{stood_count}
-use Rattle.spool_slots.specs.Slot.{Message as Put}
+use Rattle.spool_file.specs.Slot.{Message as Put}
 use Rattle.gem_spool.specs.Works.{lists_after}
 use Rattle.gem_spool.specs.declared.works.Work.{Work}
 use Rattle.equipment_tables.specs.declared.plan.EquipmentPlan.{EquipmentPlan}

@@ -19,10 +19,10 @@ use Rattle.spool_law.specs.Shelf.{change_of, shelf_of}
 use Rattle.spool_law.specs.Shelf.Change.{Other}
 use Rattle.spool_ledger.specs.Ledger.{LedgerView, decided_count, new_ledger, next_of, stood_count}
 use Rattle.spool_ledger.specs.declared.ledger.Stand.{Stand}
-use Rattle.spool_slots.specs.File.{SpoolFile}
-use Rattle.spool_slots.specs.Format.{empty_file}
-use Rattle.spool_slots.specs.Run.{IsRunFrom}
-use Rattle.spool_slots.specs.Slot.{Message as Put}
+use Rattle.spool_file.specs.File.{SpoolFile}
+use Rattle.spool_file.specs.Format.{empty_file}
+use Rattle.spool_file.specs.Run.{IsRunFrom}
+use Rattle.spool_file.specs.Slot.{Message as Put}
 use Rattle.gem_spool.specs.Standing.{count_in}
 use Rattle.gem_spool.specs.Works.{AreDue, counts_after, lists_after, reserved as marked, standings_after}
 use Rattle.gem_spool.specs.declared.count.Count.{Count}

@@ -12,8 +12,8 @@ use Rattle.message_end.specs.Parts.{Node, after_parts}
 use Rattle.spool_law.specs.Shelf.{Change, IsFoundOf, shelf_of}
 use Rattle.spool_ledger.specs.Laws.{Call}
 use Rattle.spool_ledger.specs.Ledger.{LedgerView, carried_out, new_ledger, stood_count}
-use Rattle.spool_slots.specs.Run.{IsRunFrom}
-use Rattle.spool_slots.specs.Slot.{Message as Put}
+use Rattle.spool_file.specs.Run.{IsRunFrom}
+use Rattle.spool_file.specs.Slot.{Message as Put}
 use Rattle.gem_spool.specs.Works.{AreDue}
 use Rattle.gem_spool.specs.declared.works.Work.{Work}
 use Rattle.equipment_tables.specs.declared.plan.EquipmentPlan.{EquipmentPlan}
@@ -21,7 +21,7 @@ use Rattle.equipment_tables.specs.Laws.{TablesAreLookedBackFor}
 use Rattle.equipment_tables.specs.Plan.{EquipmentPlanFits}
 use Rattle.tool_step.specs.declared.kind.Kind.{Kind}
 use Rattle.tool_step.specs.Equipment.{EquipmentView, act, begun_step, ended_step, is_marked_out, needs_numbers, new_own, node_step, oldest_of, parts_done, reserved, settled, settled_list, settled_own, settled_step, settled_went, went_with_file}
-use Rattle.spool_slots.specs.Area.{first_of}
+use Rattle.spool_file.specs.Area.{first_of}
 use Rattle.spool_works.specs.Found.{found_in}
 use Rattle.tool_reports.specs.Histories.{with_command}
 use Rattle.tool_law.proofs.Lawful.{IsGoodView, begun-good, oldest-good, settled-view-good}

@@ -14,8 +14,8 @@ use Rattle.gem_spool.specs.Works.{lists_after}
 use Rattle.gem_spool.specs.declared.works.Work.{Work}
 use Rattle.spool_ledger.specs.Storing.{oldest_out}
 use Rattle.spool_ledger.specs.Unloading.{confirmed, counted, is_oldest_tried, settled, taken_up, tried_in, tries, with_each}
-use Rattle.spool_slots.specs.Run.{IsRunFrom}
-use Rattle.spool_slots.specs.Slot.{Message as Put}
+use Rattle.spool_file.specs.Run.{IsRunFrom}
+use Rattle.spool_file.specs.Slot.{Message as Put}
 use Rattle.trace_log.specs.Log.{Happening}
 use Rattle.trace_log.specs.Log.Happening.{Spool, Try}
 use Rattle.trace_log.specs.Names.{Spooled}
@@ -28,7 +28,7 @@ use Rattle.tool_spool.specs.LeavesInStep.{IsConfirmedInStep}
 use Rattle.tool_spool.specs.SpoolKept.{policy_of}
 use Rattle.tool_spool.proofs.KeptLedger.{IsKeptBy, one-call}
 use Rattle.tool_spool.proofs.PairedLines.{told-as}
-use Rattle.tool_spool.proofs.Shelved.{IsShelved, first-is, noted-shelved, out-shelved, shelved-closed}
+use Rattle.tool_spool.proofs.Shelved.{IsShelved, first-is, noted-shelved, out-shelved, shelved-closed, shelved-for}
 use Rattle.tool_law.proofs.WorkLines.{lines-as}
 
 -- ---- what goes out
@@ -146,7 +146,8 @@ module _ (plan : EquipmentPlan) (slots : ℕ) (list : List Put) (base : List Hap
           noted-shelved (policy_of plan slots) (taken_up v.first system waiting v).next list base notes
           (Try v.first system)
           tt
-          (first-is (policy_of plan slots) v list base notes cause.Confirmed is shelved some)
+          (first-is (policy_of plan slots) v list base notes cause.Confirmed None is
+          (shelved-for None (policy_of plan slots) v list base notes shelved) some)
           (moved-shelved v (taken_up v.first system waiting v).next notes refl refl (refl, refl) shelved)
 
       -- the oldest one is to go out with these system bytes
@@ -170,24 +171,25 @@ module _ (plan : EquipmentPlan) (slots : ℕ) (list : List Put) (base : List Hap
 
           go : (oldest : Bool) → is_oldest_tried v ≡ oldest
               → IsLedger
-              (if oldest then and_then (oldest_out cause.Confirmed v) (λ w. quiet (with_each counted w))
+              (if oldest then and_then (oldest_out cause.Confirmed None v) (λ w. quiet (with_each counted w))
               else quiet (with_each settled v)).next
               → IsKeptBy plan slots list base v notes
-              (if oldest then and_then (oldest_out cause.Confirmed v) (λ w. quiet (with_each counted w))
+              (if oldest then and_then (oldest_out cause.Confirmed None v) (λ w. quiet (with_each counted w))
               else quiet (with_each settled v)).next
-              (if oldest then and_then (oldest_out cause.Confirmed v) (λ w. quiet (with_each counted w))
+              (if oldest then and_then (oldest_out cause.Confirmed None v) (λ w. quiet (with_each counted w))
               else quiet (with_each settled v)).lines
           go true e good = record {
             is = good;
             all = refl;
             shelved =
-                moved-shelved (oldest_out cause.Confirmed v).next
-                (with_each counted (oldest_out cause.Confirmed v).next)
-                (noted_behind (oldest_out cause.Confirmed v).lines notes) refl refl (refl, refl)
-                (shelved-closed (policy_of plan slots) (oldest_out cause.Confirmed v).next list base
-                (noted_behind (oldest_out cause.Confirmed v).lines notes) tt
-                (out-shelved (policy_of plan slots) v list base notes cause.Confirmed is shelved
-                (some v.len (tries v.first v.unload) e) (λ e2. absurd (grind (arith, e2))) (may e).0 (may e).1));
+                moved-shelved (oldest_out cause.Confirmed None v).next
+                (with_each counted (oldest_out cause.Confirmed None v).next)
+                (noted_behind (oldest_out cause.Confirmed None v).lines notes) refl refl (refl, refl)
+                (shelved-closed None (policy_of plan slots) (oldest_out cause.Confirmed None v).next list base
+                (noted_behind (oldest_out cause.Confirmed None v).lines notes) refl
+                (out-shelved (policy_of plan slots) v list base notes cause.Confirmed None is
+                (shelved-for None (policy_of plan slots) v list base notes shelved)
+                (some v.len (tries v.first v.unload) e) (λ e2. absurd (grind (arith, e2))) ((may e).0, refl) (may e).1));
             told = refl;
             tables = refl;
             moves = inr (omega arith);
@@ -221,7 +223,7 @@ confirmed-tried v = go (is_oldest_tried v)
 
     go : (oldest : Bool)
         → tried_in
-        (if oldest then and_then (oldest_out cause.Confirmed v) (λ w. quiet (with_each counted w))
+        (if oldest then and_then (oldest_out cause.Confirmed None v) (λ w. quiet (with_each counted w))
         else quiet (with_each settled v)).next.unload
         ≡ None
     go true = by v.unload counted (λ u. refl)

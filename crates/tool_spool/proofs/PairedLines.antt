@@ -7,7 +7,7 @@ use Rattle.message_end.specs.Course.{noted_behind}
 use Rattle.spool_law.specs.Shelf.{Change, change_of}
 use Rattle.spool_ledger.specs.Ledger.{IsLedger, LedgerView, next_of, owed, stood_count}
 use Rattle.spool_ledger.specs.declared.ledger.Stand.{Stand}
-use Rattle.spool_slots.specs.Slot.{Message}
+use Rattle.spool_file.specs.Slot.{Message}
 use Rattle.trace_log.specs.Log.{Happening}
 use Rattle.tool_step.specs.Equipment.{settled_list}
 use Rattle.message_end.proofs.Growing.{behind-both}
@@ -20,7 +20,7 @@ with-more : (change : Change) (one two : List Change) → with_change change one
 with-more (Change.Finds found) one two = refl
 with-more (Change.Stores number message) one two = refl
 with-more (Change.HasStored number) one two = refl
-with-more (Change.Leaves number why) one two = refl
+with-more (Change.Leaves number why room_for) one two = refl
 with-more (Change.HasGone number) one two = refl
 with-more (Change.Tries number system) one two = refl
 with-more (Change.Sends message) one two = refl
@@ -41,7 +41,7 @@ no-change Change.Other leaves = refl
 no-change (Change.Finds found) leaves = absurd leaves
 no-change (Change.Stores number message) leaves = absurd leaves
 no-change (Change.HasStored number) leaves = absurd leaves
-no-change (Change.Leaves number why) leaves = absurd leaves
+no-change (Change.Leaves number why room_for) leaves = absurd leaves
 no-change (Change.HasGone number) leaves = absurd leaves
 
 -- ---- a work more

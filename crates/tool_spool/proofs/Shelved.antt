@@ -1,6 +1,6 @@
 -- That the spool that the notes tell of is the list that the ledger and the file come to, over every change of the
 -- ledger.
-use Rattle.std.proofs.Common.{◌≡◌, ◌≢◌, refl, sym, ap, subst, ◌∙◌, inl, inr, arith, ◌<◌, ◌+◌, ◌-◌, ◌^◌, ◌==◌, nat_le, nat_lt, Bool, true, false, ℕ, List, [], ◌∷◌, ◌++◌, drop, length, length-append, Some, not, if◌then◌else◌}
+use Rattle.std.proofs.Common.{◌≡◌, ◌≢◌, refl, sym, ap, subst, ◌∙◌, inl, inr, arith, ◌<◌, ◌+◌, ◌-◌, ◌^◌, ◌==◌, nat_le, nat_lt, Bool, true, false, ℕ, List, [], ◌∷◌, ◌++◌, ◌⊎◌, drop, length, length-append, Option, Some, None, not, if◌then◌else◌}
 use Rattle.std.proofs.lemmas.Bool.Decides.{nat_tests}
 use Rattle.gem_spool.specs.Works.{count_after, counts_after, list_after, lists_after}
 use Rattle.gem_spool.specs.declared.count.Count.{Count}
@@ -14,8 +14,8 @@ use Rattle.spool_law.specs.Shelf.{Change, IsAtRest, IsFirst, MayChange, MayLeave
 use Rattle.spool_ledger.specs.Ledger.{Booked, IsLedger, LedgerView, carried_out, next_of, owed, quiet, room_for, stood_count}
 use Rattle.spool_ledger.specs.Storing.{all_out, oldest_out, put, stored, stored_by}
 use Rattle.spool_ledger.proofs.Keeping.{full_has_some, oldest_out_keeps}
-use Rattle.spool_slots.specs.Run.{IsRunFrom}
-use Rattle.spool_slots.specs.Slot.{Message}
+use Rattle.spool_file.specs.Run.{IsRunFrom}
+use Rattle.spool_file.specs.Slot.{Message}
 use Rattle.trace_log.specs.Log.{Happening}
 use Rattle.trace_log.specs.Log.Happening.{Discarded, Gone, Leaving, TooLong}
 use Rattle.trace_log.specs.Names.{Spooled, spooled_name}
@@ -28,7 +28,7 @@ use Rattle.spool_works.specs.DiskWorks.{DiskWork}
 use Rattle.spool_works.proofs.FoundLosses.{found-behind, found-long}
 use Rattle.tool_spool.specs.InPairs.{IsOfOne}
 use Rattle.tool_spool.specs.LeavesInStep.{MayChangeInStep, MayLeaveInStep}
-use Rattle.tool_spool.specs.MadeRoom.{IsRoomUsed, IsUsedBy}
+use Rattle.tool_spool.specs.MadeRoom.{IsRoomUsed, IsUsedBy, made_for}
 use Rattle.tool_spool.proofs.FromStarts.{KeepsOn}
 use Rattle.tool_spool.proofs.PairedLines.{AreTold, told-more, told-none, told-work}
 use Rattle.tool_law.proofs.WorkLines.{AreLines, LeavesStanding, lines-more, lines-none, lines-work, quiet-change}
@@ -100,17 +100,17 @@ pub record IsShelvedSo (Closed : List Happening → Type 0)
 abbrev pub IsShelved : Policy → LedgerView → List Message → (base notes : List Happening) → Type 0
 IsShelved policy v list base notes = IsShelvedSo IsRoomUsed policy v list base notes
 
--- one may be
-abbrev pub Free : List Happening → Type 0
-Free notes = Unit {0}
+-- one may be, for this message
+abbrev pub IsMadeFor : Option Spooled → List Happening → Type 0
+IsMadeFor for_one notes = IsRoomUsed notes ⊎ (made_for notes ≡ for_one)
 
-abbrev pub IsShelvedFree : Policy → LedgerView → List Message → (base notes : List Happening) → Type 0
-IsShelvedFree policy v list base notes = IsShelvedSo Free policy v list base notes
+abbrev pub IsShelvedFor : Option Spooled → Policy → LedgerView → List Message → (base notes : List Happening) → Type 0
+IsShelvedFor for_one policy v list base notes = IsShelvedSo (IsMadeFor for_one) policy v list base notes
 
-pub shelved-free :
-    (policy : Policy) (v : LedgerView) (list : List Message) (base notes : List Happening)
-    → IsShelved policy v list base notes → IsShelvedFree policy v list base notes
-shelved-free policy v list base notes is = record {
+pub shelved-for :
+    (for_one : Option Spooled) (policy : Policy) (v : LedgerView) (list : List Message) (base notes : List Happening)
+    → IsShelved policy v list base notes → IsShelvedFor for_one policy v list base notes
+shelved-for for_one policy v list base notes is = record {
   kept = is.kept;
   rest = is.rest;
   stands = is.stands;
@@ -118,13 +118,13 @@ shelved-free policy v list base notes is = record {
   long = is.long;
   lines = is.lines;
   told = is.told;
-  closed = tt;
+  closed = inl is.closed;
 }
 
 pub shelved-closed :
-    (policy : Policy) (v : LedgerView) (list : List Message) (base notes : List Happening)
-    → IsRoomUsed notes → IsShelvedFree policy v list base notes → IsShelved policy v list base notes
-shelved-closed policy v list base notes closed is = record {
+    (for_one : Option Spooled) (policy : Policy) (v : LedgerView) (list : List Message) (base notes : List Happening)
+    → IsRoomUsed notes → IsShelvedFor for_one policy v list base notes → IsShelved policy v list base notes
+shelved-closed for_one policy v list base notes closed is = record {
   kept = is.kept;
   rest = is.rest;
   stands = is.stands;
@@ -143,7 +143,7 @@ used-behind Change.Other notes leaves = tt
 used-behind (Change.Finds found) notes leaves = absurd leaves
 used-behind (Change.Stores number message) notes leaves = absurd leaves
 used-behind (Change.HasStored number) notes leaves = absurd leaves
-used-behind (Change.Leaves number why) notes leaves = absurd leaves
+used-behind (Change.Leaves number why room_for) notes leaves = absurd leaves
 used-behind (Change.HasGone number) notes leaves = absurd leaves
 
 quiet-in-step : (policy : Policy) (change : Change) (notes : List Happening) → LeavesStanding change
@@ -155,7 +155,7 @@ quiet-in-step policy Change.Other notes leaves = tt
 quiet-in-step policy (Change.Finds found) notes leaves = absurd leaves
 quiet-in-step policy (Change.Stores number message) notes leaves = absurd leaves
 quiet-in-step policy (Change.HasStored number) notes leaves = absurd leaves
-quiet-in-step policy (Change.Leaves number why) notes leaves = absurd leaves
+quiet-in-step policy (Change.Leaves number why room_for) notes leaves = absurd leaves
 quiet-in-step policy (Change.HasGone number) notes leaves = absurd leaves
 
 some-inj : {X : Type 0} (x y : X) → Some x ≡ Some y → x ≡ y
@@ -192,7 +192,7 @@ module _ (policy : Policy) where
       same (Change.Finds found) leaves = absurd leaves
       same (Change.Stores number message) leaves = absurd leaves
       same (Change.HasStored number) leaves = absurd leaves
-      same (Change.Leaves number why) leaves = absurd leaves
+      same (Change.Leaves number why room_for) leaves = absurd leaves
       same (Change.HasGone number) leaves = absurd leaves
 
   -- ---- the works are done
@@ -215,7 +215,7 @@ module _ (policy : Policy) where
   -- ---- a message is put
 
   module _ (v : LedgerView) (list : List Message) (base notes : List Happening) (message : Spooled)
-      (is : IsLedger v) (shelved : IsShelvedFree policy v list base notes)
+      (is : IsLedger v) (shelved : IsShelvedFor (Some message) policy v list base notes)
     where
       abbrev numbered : Message
       numbered = record {
@@ -243,7 +243,7 @@ module _ (policy : Policy) where
                   let long = shelved.long in
                   omega (arith, below, long);
             },
-            inr tt,
+            shelved.closed,
             tt,
             shelved.kept,
           ),
@@ -274,9 +274,10 @@ module _ (policy : Policy) where
   -- ---- the oldest one leaves
 
   module _ (v : LedgerView) (list : List Message) (base notes : List Happening) (why : Cause)
-      (is : IsLedger v) (shelved : IsShelved policy v list base notes) (some : 0 < v.len)
+      (for_one : Option Spooled) (is : IsLedger v) (shelved : IsShelvedFor for_one policy v list base notes)
+      (some : 0 < v.len)
     where
-      out-list : settled_list (oldest_out why v).next list ≡ drop 1 (settled_list v list)
+      out-list : settled_list (oldest_out why for_one v).next list ≡ drop 1 (settled_list v list)
       out-list = settled-more v list work.DropOldest is
 
       pub first-listed : IsFirst (found_in (settled_list v list)) v.first
@@ -296,8 +297,9 @@ module _ (policy : Policy) where
       less (x ∷ list2) n same = omega (arith, same)
 
       pub out-shelved :
-          why ≢ cause.Purged → MayLeaveFor policy notes why → MayLeaveInStep policy notes v.first why
-          → IsShelvedFree policy (oldest_out why v).next list base (noted_behind (oldest_out why v).lines notes)
+          why ≢ cause.Purged → MayLeaveFor policy notes why for_one → MayLeaveInStep policy notes v.first why
+          → IsShelvedFor for_one policy (oldest_out why for_one v).next list base
+          (noted_behind (oldest_out why for_one v).lines notes)
       out-shelved one may in_step = record {
         kept = inr (
           record { cause = why; is = refl; first = first-is },
@@ -305,7 +307,7 @@ module _ (policy : Policy) where
           tt,
           inr (
             record { rest = shelved.rest; first = first-is; cause = may },
-            inl shelved.closed,
+            shelved.closed,
             in_step,
             shelved.kept,
           ),
@@ -318,23 +320,24 @@ module _ (policy : Policy) where
             subst (IsRunFrom (v.first + 1)) (sym out-list) (run-rest v.first (settled_list v list) shelved.run);
         long = ap length out-list ∙ less (settled_list v list) v.len shelved.long;
         lines =
-            lines-work v (oldest_out why v).next list base notes work.DropOldest (Leaving v.first why) (Gone v.first) is
-            refl refl refl refl
+            lines-work v (oldest_out why for_one v).next list base notes work.DropOldest (Leaving v.first why for_one)
+            (Gone v.first) is refl refl refl refl
             (record { stands = shelved.stands; storing = shelved.rest.none_stored; leaving = by why one })
             shelved.lines;
         told =
-            told-work v (oldest_out why v).next list base notes work.DropOldest (Leaving v.first why) (Gone v.first) is
-            refl refl refl
+            told-work v (oldest_out why for_one v).next list base notes work.DropOldest (Leaving v.first why for_one)
+            (Gone v.first) is refl refl refl
             (record {
               number = v.first;
               why = why;
+              room_for = for_one;
               first = first-listed;
               cause_is = of-one why one;
               before_is = refl;
               behind_is = refl;
             })
             shelved.told;
-        closed = tt;
+        closed = inr refl;
       }
         where
           by : (why : Cause) → why ≢ cause.Purged → MayLeaveAt (DiskWork.Change work.DropOldest) (Some why)
@@ -355,11 +358,14 @@ module _ (policy : Policy) where
       abbrev emptied : LedgerView
       emptied = record v { first = v.first + v.len; len = 0; works = owed v work.Purge }
 
+      shelved-none : IsShelvedFor None policy v list base notes
+      shelved-none = shelved-for None policy v list base notes shelved
+
       some-left : (len : ℕ) → (len == 0) ≡ false → 0 < len
       some-left len none = grind (arith, nat_tests, none)
 
       pub all-shelved :
-          (0 < v.len → MayLeaveFor policy notes cause.Purged)
+          (0 < v.len → MayLeaveFor policy notes cause.Purged None)
           → (0 < v.len → MayLeaveInStep policy notes v.first cause.Purged)
           → IsShelved policy (all_out v).next list base (noted_behind (all_out v).lines notes)
       all-shelved may in_step = go (v.len == 0) refl
@@ -367,25 +373,25 @@ module _ (policy : Policy) where
           go : (none : Bool) → (v.len == 0) ≡ none
               → IsShelved policy
               (if none then quiet v
-              else record { next = emptied; lines = Leaving v.first cause.Purged ∷ Gone v.first ∷ [] }).next
+              else record { next = emptied; lines = Leaving v.first cause.Purged None ∷ Gone v.first ∷ [] }).next
               list base
               (noted_behind
               (if none then quiet v
-              else record { next = emptied; lines = Leaving v.first cause.Purged ∷ Gone v.first ∷ [] }).lines notes)
+              else record { next = emptied; lines = Leaving v.first cause.Purged None ∷ Gone v.first ∷ [] }).lines notes)
           go true e = shelved
           go false e = record {
             kept = inr (
               record {
                 cause = cause.Purged;
                 is = refl;
-                first = first-is v list base notes cause.Purged is shelved (some-left v.len e);
+                first = first-is v list base notes cause.Purged None is shelved-none (some-left v.len e);
               },
               inl tt,
               tt,
               inr (
                 record {
                   rest = shelved.rest;
-                  first = first-is v list base notes cause.Purged is shelved (some-left v.len e);
+                  first = first-is v list base notes cause.Purged None is shelved-none (some-left v.len e);
                   cause = may (some-left v.len e);
                 },
                 inl shelved.closed,
@@ -398,22 +404,23 @@ module _ (policy : Policy) where
             run = subst (IsRunFrom (v.first + v.len)) (sym (settled-more v list work.Purge is)) tt;
             long = ap length (settled-more v list work.Purge is);
             lines =
-                lines-work v emptied list base notes work.Purge (Leaving v.first cause.Purged) (Gone v.first) is refl
+                lines-work v emptied list base notes work.Purge (Leaving v.first cause.Purged None) (Gone v.first) is refl
                 refl refl refl
                 (record { stands = shelved.stands; storing = shelved.rest.none_stored; leaving = refl }) shelved.lines;
             told =
-                told-work v emptied list base notes work.Purge (Leaving v.first cause.Purged) (Gone v.first) is refl
+                told-work v emptied list base notes work.Purge (Leaving v.first cause.Purged None) (Gone v.first) is refl
                 refl refl
                 (record {
                   number = v.first;
                   why = cause.Purged;
-                  first = first-listed v list base notes cause.Purged is shelved (some-left v.len e);
+                  room_for = None;
+                  first = first-listed v list base notes cause.Purged None is shelved-none (some-left v.len e);
                   cause_is = tt;
                   before_is = refl;
                   behind_is = refl;
                 })
                 shelved.told;
-            closed = tt;
+            closed = refl;
           }
 
   -- ---- one comes, in place of the oldest in a full spool
@@ -434,7 +441,7 @@ module _ (policy : Policy) where
       abbrev Overwrites : Bool → Type 0
       Overwrites overwriting =
           overwriting ≡ true → (length (shelf_of notes).stands == v.slots) ≡ true
-          → policy.overwrites notes (shelf_of notes).stands ≡ true
+          → policy.overwrites notes (shelf_of notes).stands message ≡ true
 
       pub stored-shelved :
           (overwriting : Bool) (booked : Booked) → Overwrites overwriting → stored overwriting message v ≡ Some booked
@@ -446,18 +453,21 @@ module _ (policy : Policy) where
               → IsShelved policy booked.next list base (noted_behind booked.lines notes)
           go room.Fits overwriting e may same =
               subst (λ (b : Booked). IsShelved policy b.next list base (noted_behind b.lines notes)) (some-inj _ _ same)
-              (put-shelved v list base notes message is (shelved-free policy v list base notes shelved))
+              (put-shelved v list base notes message is
+              (shelved-for (Some message) policy v list base notes shelved))
           go room.Full true e may same =
               let full =
               all-used (nat_lt 4081 (length message.body)) (nat_le (2 ^ 63) (next_of v)) (v.len == v.slots) e in
               let long = ap length shelved.stands ∙ found-long (settled_list v list) ∙ shelved.long in
               let some = full_has_some v (length message.body) is e in
+              let one : Option Spooled = Some message in
               let out =
-              out-shelved v list base notes cause.Overwritten is shelved some (λ e2. absurd (grind (arith, e2)))
+              out-shelved v list base notes cause.Overwritten one is (shelved-for one policy v list base notes shelved)
+              some (λ e2. absurd (grind (arith, e2)))
               (may refl (ap (λ (n : ℕ). n == v.slots) long ∙ full)) tt in
               subst (λ (b : Booked). IsShelved policy b.next list base (noted_behind b.lines notes)) (some-inj _ _ same)
-              (put-shelved (oldest_out cause.Overwritten v).next list base
-              (noted_behind (oldest_out cause.Overwritten v).lines notes) message
+              (put-shelved (oldest_out cause.Overwritten one v).next list base
+              (noted_behind (oldest_out cause.Overwritten one v).lines notes) message
               (oldest_out_keeps v (owed v work.DropOldest) is some refl) out)
           go room.Full false e may same =
               subst (λ (b : Booked). IsShelved policy b.next list base (noted_behind b.lines notes)) (some-inj _ _ same)

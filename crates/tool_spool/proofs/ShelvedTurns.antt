@@ -18,7 +18,7 @@ use Rattle.spool_ledger.specs.Storing.{all_out, stored}
 use Rattle.spool_ledger.specs.Unloading.{tried_in}
 use Rattle.spool_ledger.specs.declared.ledger.Stand.{Stand}
 use Rattle.spool_ledger.specs.declared.unload.Unload.{Unload}
-use Rattle.spool_slots.specs.Slot.{Message as Put}
+use Rattle.spool_file.specs.Slot.{Message as Put}
 use Rattle.trace_log.specs.InStep.{received_in_step}
 use Rattle.trace_log.specs.Log.{Happening}
 use Rattle.trace_log.specs.Names.{Spooled}

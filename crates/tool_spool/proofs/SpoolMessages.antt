@@ -42,7 +42,7 @@ use Rattle.spool_ledger.specs.Ledger.{LedgerView}
 use Rattle.spool_ledger.specs.Storing.{all_out}
 use Rattle.spool_ledger.specs.Unloading.{fresh, is_oldest_tried, tried_in, with_unload}
 use Rattle.spool_ledger.specs.declared.unload.Unload.{Unload}
-use Rattle.spool_slots.specs.Slot.{Message as Put}
+use Rattle.spool_file.specs.Slot.{Message as Put}
 use Rattle.equipment_tables.specs.declared.plan.EquipmentPlan.{EquipmentPlan}
 use Rattle.equipment_tables.specs.Answers.{alarm_item_of, event_item}
 use Rattle.equipment_tables.specs.Laws.{TablesAreLookedBackFor}

@@ -28,7 +28,7 @@ use Rattle.spool_law.specs.Shelf.{shelf_of}
 use Rattle.spool_ledger.specs.Activity.{activated}
 use Rattle.spool_ledger.specs.Ledger.{Booked, LedgerView}
 use Rattle.spool_ledger.specs.Unloading.{tried_in, with_unload}
-use Rattle.spool_slots.specs.Slot.{Message as Put}
+use Rattle.spool_file.specs.Slot.{Message as Put}
 use Rattle.equipment_tables.specs.declared.answers.Answer.{Answer as Text}
 use Rattle.equipment_tables.specs.declared.answers.Answer.TheVariants as answer
 use Rattle.equipment_tables.specs.declared.plan.EquipmentPlan.{EquipmentPlan}

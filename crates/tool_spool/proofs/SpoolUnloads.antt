@@ -18,7 +18,7 @@ use Rattle.spool_ledger.specs.Ledger.{LedgerView}
 use Rattle.spool_ledger.specs.Unloading.{after_next, is_over, let_go, next_number as next_unloaded, number_next, taken_up, tried_in, unload_next, waiting_in, with_each}
 use Rattle.spool_ledger.specs.declared.unload.Tried.{Tried as UnderWay}
 use Rattle.spool_ledger.specs.declared.unload.Unload.{Unload}
-use Rattle.spool_slots.specs.Slot.{Message as Put}
+use Rattle.spool_file.specs.Slot.{Message as Put}
 use Rattle.equipment_tables.specs.declared.answers.Answer.{Answer as Text}
 use Rattle.equipment_tables.specs.declared.answers.Answer.TheVariants as answer
 use Rattle.equipment_tables.specs.declared.plan.EquipmentPlan.{EquipmentPlan}

@@ -23,7 +23,7 @@ use Rattle.spool_ledger.specs.Ledger.{IsLedger, LedgerView}
 use Rattle.spool_ledger.specs.Unloading.{confirmed, is_oldest_tried, taken_up, tried_in, trying, with_unload}
 use Rattle.spool_ledger.specs.declared.unload.Tried.{Tried as UnderWay}
 use Rattle.spool_ledger.specs.declared.unload.Unload.{Unload}
-use Rattle.spool_slots.specs.Slot.{Message as Put}
+use Rattle.spool_file.specs.Slot.{Message as Put}
 use Rattle.equipment_tables.specs.declared.plan.EquipmentPlan.{EquipmentPlan}
 use Rattle.tool_step.specs.declared.kind.Kind.{Kind}
 use Rattle.tool_step.specs.declared.kind.Kind.TheVariants as kind

@@ -10,6 +10,7 @@ use Rattle.message_end.specs.Course.Meeting.{Acts, Breaks, Fills, LosesPower, Re
 use Rattle.message_end.specs.Doings.{Doing, IsInTurn}
 use Rattle.message_end.specs.Doings.Doing.{Says}
 use Rattle.message_end.specs.Ends.{DoesStep, GoesSoFar, HasRestarted, HasStarted, Input, IsOfWorld, KeepsLaw, Loss, LosesAt, MayTake, OnStart, call_of}
+use Rattle.message_end.specs.Ends.IsOfWorld.{of_power, of_wrote}
 use Rattle.message_end.specs.History.{noted_in}
 use Rattle.message_flow.specs.declared.message.Message.{Message}
 use Rattle.spool_works.proofs.LossCounts.{has-call}
@@ -21,6 +22,7 @@ use Rattle.equipment_tables.specs.declared.plan.EquipmentPlan.{EquipmentPlan}
 use Rattle.tool_law.specs.Laws.{DidOf, EquipmentKeepsItsLaw}
 use Rattle.tool_law.specs.Tried.{AreTried}
 use Rattle.message_end.proofs.Growing.{behind-both}
+use Rattle.message_end.proofs.Starts.{equipment-start}
 use Rattle.tool_step.specs.End.{machine}
 use Rattle.tool_step.specs.Equipment.{EquipmentView, act, restarts, starts}
 use Rattle.tool_step.specs.Losses.{losses}
@@ -75,14 +77,18 @@ module _ (plan : EquipmentPlan) (start : Went EquipmentView Happening)
       (least : ℕ) (step : Step EquipmentView Happening) (notes : List Happening)
       → HasStarted (end_plan plan) (DidOf plan) least step
       → IsRunSo step.next (noted_behind step.notes notes)
-  start-so least step notes started = record {
-    base = started.base;
-    found = started.found;
-    before = notes;
-    doings = [];
-    noted = ap (λ (ns : List Happening). noted_behind ns notes) started.notes;
-    did = started.is;
-  }
+  start-so least step notes started =
+      let starts = equipment-start _ started.note started.base started.of_side refl in
+      record {
+        base = started.base;
+        found = starts.found;
+        before = notes;
+        doings = [];
+        noted =
+            ap (λ (ns : List Happening). noted_behind ns notes)
+            (started.notes ∙ ap (λ (what : Happening). what ∷ []) starts.is);
+        did = started.is;
+      }
 
   restart-so :
       (base : ℕ) (doings : List Doing) (went : Went EquipmentView Happening) (notes : List Happening)
@@ -215,8 +221,8 @@ module _ (plan : EquipmentPlan) (start : Went EquipmentView Happening)
   meeting-so (Restarts now) (Reached s notes) may so =
       restart-so so.base so.doings (restarts s now) notes (in-turn s notes so)
       (law.restarts so.base so.doings s now so.did)
-  meeting-so (Writes characters) (Reached s notes) may so = said-so s notes (Happening.Wrote characters) tt so
-  meeting-so LosesPower (Reached s notes) may so = said-so s notes Happening.Power tt so
+  meeting-so (Writes characters) (Reached s notes) may so = said-so s notes (Happening.Wrote characters) (of_wrote characters) so
+  meeting-so LosesPower (Reached s notes) may so = said-so s notes Happening.Power of_power so
   meeting-so (Breaks input now call choice) (Reached s notes) may so =
       broken-so s notes input now call choice (call_of call (losses s input now)) refl may so
   meeting-so (Fills input now call) (Reached s notes) may so =

@@ -13,7 +13,7 @@ use Rattle.tool_spool.specs.MadeRoom.{IsRoomUsed, IsUsedBy}
 line-used : (what : Happening) (before : List Happening) → is_before_change what ≡ true
     → IsUsedBy (change_of what) before
 line-used (Happening.Storing number message) before is = tt
-line-used (Happening.Leaving number why) before is = tt
+line-used (Happening.Leaving number why room_for) before is = tt
 line-used what before is = absurd (cc)
 
 module _ (base : List Happening) where

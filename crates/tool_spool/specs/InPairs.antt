@@ -1,7 +1,7 @@
 -- That each change of the spool's list stands between the two lines that tell of it: in a step there are as many pairs
 -- of lines as works of the list, the n-th of the number and the message of the n-th work; behind the works no such line
 -- is noted any more.
-use Rattle.std.specs.Prelude.{◌≡◌, ◌<◌, ◌^◌, ℕ, List, [], ◌∷◌}
+use Rattle.std.specs.Prelude.{◌≡◌, ◌<◌, ◌^◌, ℕ, List, [], ◌∷◌, Option}
 use Rattle.gem_spool.specs.Works.{list_after, next_after}
 use Rattle.gem_spool.specs.declared.works.Work.{Work}
 use Rattle.gem_spool.specs.declared.works.Work.TheVariants as work
@@ -11,13 +11,14 @@ use Rattle.message_end.specs.Course.Course.{Reached, Stopped}
 use Rattle.message_end.specs.Ends.{Input}
 use Rattle.spool_law.specs.Shelf.{Change, IsFirst, change_of}
 use Rattle.spool_law.specs.Shelf.Change.{HasGone, HasStored, Leaves, Stores}
-use Rattle.spool_slots.specs.File.{SpoolFile}
-use Rattle.spool_slots.specs.Slot.{Message}
+use Rattle.spool_file.specs.File.{SpoolFile}
+use Rattle.spool_file.specs.Slot.{Message}
 use Rattle.spool_works.specs.Found.{found_in}
 use Rattle.trace_log.specs.declared.commands.ToolCommand.{ToolCommand}
 use Rattle.trace_log.specs.declared.names.Cause.{Cause}
 use Rattle.trace_log.specs.declared.names.Cause.TheVariants as cause
 use Rattle.trace_log.specs.Log.{Happening}
+use Rattle.trace_log.specs.Names.{Spooled}
 use Rattle.equipment_tables.specs.declared.plan.EquipmentPlan.{EquipmentPlan}
 use Rattle.equipment_tables.specs.Plan.{EquipmentPlanFits}
 use Rattle.tool_step.specs.Disk.{owed_in, standing_in}
@@ -29,7 +30,7 @@ use Rattle.tool_spool.specs.SpoolKept.{MayHold}
 abbrev pub with_change : Change → List Change → List Change
 with_change (Stores number message) rest = Stores number message ∷ rest
 with_change (HasStored number) rest = HasStored number ∷ rest
-with_change (Leaves number why) rest = Leaves number why ∷ rest
+with_change (Leaves number why room_for) rest = Leaves number why room_for ∷ rest
 with_change (HasGone number) rest = HasGone number ∷ rest
 with_change _ rest = rest
 
@@ -52,9 +53,10 @@ IsOfAll cause.Overwritten = ⊥
 pub record TellsLeaving (list : List Message) (IsCause : Cause → Type 0) (before behind : Change) : Type 0 where
   pub number : ℕ
   pub why : Cause
+  pub room_for : Option Spooled
   pub first : IsFirst (found_in list) number
   pub cause_is : IsCause why
-  pub before_is : before ≡ Leaves number why
+  pub before_is : before ≡ Leaves number why room_for
   pub behind_is : behind ≡ HasGone number
 
 -- they are of this work, where this is the next number and this the list (SEMI E30, spooling; the lines are this

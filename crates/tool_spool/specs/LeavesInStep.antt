@@ -5,7 +5,7 @@ use Rattle.message_end.specs.Course.{Meeting, course_of, notes_of}
 use Rattle.message_end.specs.Own.{Has}
 use Rattle.spool_law.specs.Shelf.{Change, IsPurge, Policy, Tried, change_of, shelf_of, told_with}
 use Rattle.spool_law.specs.Shelf.Change.{Leaves}
-use Rattle.spool_slots.specs.File.{SpoolFile}
+use Rattle.spool_file.specs.File.{SpoolFile}
 use Rattle.trace_log.specs.InStep.{received_in_step}
 use Rattle.trace_log.specs.declared.commands.ToolCommand.{ToolCommand}
 use Rattle.trace_log.specs.declared.names.Cause.{Cause}
@@ -42,7 +42,7 @@ MayLeaveInStep policy notes number cause.Purged = IsPurge policy (received_in_st
 MayLeaveInStep policy notes number cause.Overwritten = Unit {0}
 
 abbrev pub MayChangeInStep : Policy → List Happening → Change → Type 0
-MayChangeInStep policy notes (Leaves number why) = MayLeaveInStep policy notes number why
+MayChangeInStep policy notes (Leaves number why room_for) = MayLeaveInStep policy notes number why
 MayChangeInStep policy notes _ = Unit {0}
 
 -- each note at those before it (this profile)

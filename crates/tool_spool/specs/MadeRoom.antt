@@ -1,49 +1,49 @@
--- That the oldest message of the spool is overwritten for a put alone. The newest note comes first.
-use Rattle.std.specs.Prelude.{◌⊎◌, ◌<◌, ◌^◌, List, [], ◌∷◌, Option, None, Some}
+-- That the oldest messages of the spool are overwritten for a put alone. The newest note comes first.
+use Rattle.std.specs.Prelude.{◌≡◌, ◌⊎◌, ◌<◌, ◌^◌, List, [], ◌∷◌, Option, None, Some}
 use Rattle.message_end.specs.Course.{Course, Meeting, course_of, notes_of}
 use Rattle.message_end.specs.Course.Course.{Reached, Stopped}
-use Rattle.spool_law.specs.Shelf.{Change, change_of, shelf_of}
-use Rattle.spool_law.specs.Shelf.Change.{HasGone}
-use Rattle.spool_slots.specs.File.{SpoolFile}
+use Rattle.spool_law.specs.Shelf.{Change, change_of}
+use Rattle.spool_law.specs.Shelf.Change.{HasGone, Leaves, Stores}
+use Rattle.spool_file.specs.File.{SpoolFile}
 use Rattle.trace_log.specs.declared.commands.ToolCommand.{ToolCommand}
-use Rattle.trace_log.specs.declared.names.Cause.{Cause}
-use Rattle.trace_log.specs.declared.names.Cause.TheVariants as cause
 use Rattle.trace_log.specs.Log.{Happening}
+use Rattle.trace_log.specs.Names.{Spooled}
 use Rattle.equipment_tables.specs.declared.plan.EquipmentPlan.{EquipmentPlan}
 use Rattle.equipment_tables.specs.Plan.{EquipmentPlanFits}
 use Rattle.tool_step.specs.End.{machine}
 use Rattle.tool_step.specs.Equipment.{EquipmentView, started_on}
 use Rattle.tool_spool.specs.SpoolKept.{MayHold}
 
--- a message that leaves for such a cause, or for none, makes no room for another
-abbrev pub MakesNone : Cause → Type 0
-MakesNone cause.Confirmed = Unit {0}
-MakesNone cause.Purged = Unit {0}
-MakesNone cause.Overwritten = ⊥
+-- the message for which the last removal makes room, if it makes any
+abbrev pub named_by : Change → Option Spooled → Option Spooled
+named_by (Leaves number why room_for) before = room_for
+named_by _ before = before
 
-abbrev pub LeftMakesNone : Option Cause → Type 0
-LeftMakesNone None = Unit {0}
-LeftMakesNone (Some why) = MakesNone why
+abbrev pub made_for : List Happening → Option Spooled
+made_for [] = None
+made_for (what ∷ before) = named_by (change_of what) (made_for before)
 
 abbrev pub IsUsedBy : Change → List Happening → Type 0
-IsUsedBy (HasGone number) before = LeftMakesNone (shelf_of before).leaving
+IsUsedBy (HasGone number) before = made_for before ≡ None
 IsUsedBy _ before = Unit {0}
 
--- what was noted last isn't that a message is gone which was overwritten: no place is left that was made for another
+-- what was noted last isn't that a message is gone which made room for another: no place is left that was made so
 abbrev pub IsRoomUsed : List Happening → Type 0
 IsRoomUsed [] = Unit {0}
 IsRoomUsed (what ∷ before) = IsUsedBy (change_of what) before
 
--- a message is put
-abbrev pub IsPut : Happening → Type 0
-IsPut (Happening.Storing number message) = Unit {0}
-IsPut _ = ⊥
+-- that message is put, or one more leaves for it
+abbrev pub TakesRoom : Option Spooled → Change → Type 0
+TakesRoom made (Stores number message) = made ≡ Some message
+TakesRoom made (Leaves number why room_for) = made ≡ room_for
+TakesRoom made _ = ⊥
 
 abbrev pub MayUse : List Happening → Happening → Type 0
-MayUse before what = IsRoomUsed before ⊎ IsPut what
+MayUse before what = IsRoomUsed before ⊎ TakesRoom (made_for before) (change_of what)
 
--- right behind a message that is gone as overwritten another is put, also where power is lost at one of the calls of
--- that. So it is overwritten for a put, in whose step it leaves (SEMI E30, OverWriteSpool)
+-- right behind a message that is gone as overwritten the one is put that it has made room for, or another leaves for
+-- that, also where power is lost at one of the calls of that. So it is overwritten for a put, in whose step it leaves
+-- (SEMI E30, OverWriteSpool)
 abbrev pub MakesRoomForPuts : List Happening → Type 0
 MakesRoomForPuts [] = Unit {0}
 MakesRoomForPuts (what ∷ before) = MayUse before what × MakesRoomForPuts before

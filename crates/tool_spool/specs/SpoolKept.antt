@@ -1,14 +1,14 @@
 -- That the equipment keeps the law of its spool over its notes.
-use Rattle.std.specs.Prelude.{◌≡◌, ◌<◌, ◌≤◌, ◌+◌, ◌==◌, ◌&&◌, ◌^◌, ℕ, Bool, true, false, List, [], ◌∷◌, length, Option, Some}
+use Rattle.std.specs.Prelude.{◌≡◌, ◌<◌, ◌≤◌, ◌+◌, ◌&&◌, ◌==◌, ◌^◌, ℕ, Bool, true, false, List, [], ◌∷◌, length, Option, Some}
 use Rattle.gem_shapes.specs.declared.request.Request.{Request}
 use Rattle.gem_shapes.specs.declared.request.Request.TheVariants as request
 use Rattle.trace_log.specs.declared.commands.ToolCommand.{ToolCommand}
 use Rattle.message_end.specs.Course.{Meeting, course_of, notes_of}
 use Rattle.spool_law.specs.Shelf.{Change, KeepsSpool, MayChange, Policy, change_of}
 use Rattle.spool_law.specs.Shelf.Change.{Finds}
-use Rattle.spool_slots.specs.File.{SpoolFile}
-use Rattle.spool_slots.specs.Format.{empty_file}
-use Rattle.spool_slots.specs.Run.{IsRunFrom}
+use Rattle.spool_file.specs.File.{SpoolFile}
+use Rattle.spool_file.specs.Format.{empty_file}
+use Rattle.spool_file.specs.Run.{IsRunFrom}
 use Rattle.spool_works.specs.Found.{first_in, found_in}
 use Rattle.trace_log.specs.Log.{Happening}
 use Rattle.trace_log.specs.Names.{Spooled}
@@ -32,7 +32,7 @@ is_purge _ = false
 abbrev pub policy_of : EquipmentPlan → ℕ → Policy
 policy_of plan slots = record {
   purges = λ message. is_purge (request_of message.stream message.function message.body);
-  overwrites = λ notes stands. length stands == slots && overwrites (tables_in plan notes);
+  overwrites = λ notes stands message. (length stands == slots) && overwrites (tables_in plan notes);
 }
 
 -- ---- over a file of an earlier run

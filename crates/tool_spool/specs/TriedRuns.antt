@@ -7,7 +7,7 @@ use Rattle.message_end.specs.Course.Meeting.{Acts, Breaks, Fills, LosesPower, Re
 use Rattle.message_end.specs.Doings.{AreLawful, Doing}
 use Rattle.message_end.specs.Ends.{MayTake}
 use Rattle.message_end.specs.History.{noted_in}
-use Rattle.spool_slots.specs.File.{SpoolFile}
+use Rattle.spool_file.specs.File.{SpoolFile}
 use Rattle.trace_log.specs.Commands.{ToolCommandFits}
 use Rattle.trace_log.specs.declared.commands.ToolCommand.{ToolCommand}
 use Rattle.trace_log.specs.Log.{Happening}

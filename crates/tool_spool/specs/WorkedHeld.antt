@@ -1,6 +1,6 @@
 -- What is said of a spool whose file held a message before the equipment's first start, in examples that can be
 -- followed by hand. The newest comes first.
-use Rattle.std.specs.Prelude.{◌≡◌, ℕ, true, List, [], ◌∷◌}
+use Rattle.std.specs.Prelude.{◌≡◌, ℕ, true, List, [], ◌∷◌, None}
 use Rattle.message_flow.specs.declared.message.Message.{Message}
 use Rattle.spool_law.specs.Shelf.{KeepsSpool, Policy}
 use Rattle.trace_log.specs.declared.names.Cause.TheVariants as cause
@@ -14,7 +14,7 @@ held message = (7, message) ∷ []
 -- it is found, and all leave as the host asks for that
 abbrev pub found_and_purged : Spooled → Message → List Happening
 found_and_purged message request =
-    Happening.Gone 7 ∷ Happening.Leaving 7 cause.Purged ∷ Happening.Received request
+    Happening.Gone 7 ∷ Happening.Leaving 7 cause.Purged None ∷ Happening.Received request
     ∷ Happening.EquipmentStarted (held message) 0 ∷ []
 
 -- nothing is found; and its number is given again

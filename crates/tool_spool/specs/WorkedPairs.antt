@@ -1,8 +1,8 @@
 -- Works with the lines that tell of them, in examples that can be followed by hand. The oldest line comes first.
-use Rattle.std.specs.Prelude.{ℕ, List, [], ◌∷◌}
+use Rattle.std.specs.Prelude.{ℕ, List, [], ◌∷◌, None, Some}
 use Rattle.gem_spool.specs.declared.works.Work.{Work}
 use Rattle.gem_spool.specs.declared.works.Work.TheVariants as work
-use Rattle.spool_slots.specs.Slot.{Message}
+use Rattle.spool_file.specs.Slot.{Message}
 use Rattle.trace_log.specs.declared.names.Cause.TheVariants as cause
 use Rattle.trace_log.specs.Log.{Happening}
 use Rattle.trace_log.specs.Names.{Spooled, spooled_name}
@@ -25,7 +25,7 @@ put_over function body = work.DropOldest ∷ work.Put 6 function body ∷ []
 
 abbrev pub over_lines : ℕ → List ℕ → List Happening
 over_lines function body =
-    Happening.Event 1 0 ∷ Happening.Leaving 7 cause.Overwritten ∷ Happening.Gone 7
+    Happening.Event 1 0 ∷ Happening.Leaving 7 cause.Overwritten (Some (report function body)) ∷ Happening.Gone 7
     ∷ Happening.Storing 8 (report function body) ∷ Happening.Stored 8 ∷ []
 
 -- it is put under this number, with these lines before and behind
@@ -33,7 +33,7 @@ abbrev pub put_lines : ℕ → Spooled → List Happening
 put_lines number message = Happening.Storing number message ∷ Happening.Stored number ∷ []
 
 abbrev pub purge_lines : List Happening
-purge_lines = Happening.Leaving 7 cause.Purged ∷ Happening.Gone 7 ∷ []
+purge_lines = Happening.Leaving 7 cause.Purged None ∷ Happening.Gone 7 ∷ []
 
 pub record TellsEachWork : Type 0 where
   pub over :
@@ -44,7 +44,7 @@ pub record TellsEachWork : Type 0 where
   pub discarded :
       (oldest : Message) (function : ℕ) (body : List ℕ)
       → Tell oldest (put_over function body)
-      (Happening.Leaving 7 cause.Overwritten ∷ Happening.Gone 7
+      (Happening.Leaving 7 cause.Overwritten (Some (report function body)) ∷ Happening.Gone 7
       ∷ Happening.Discarded (spooled_name (report function body)) ∷ [])
       → ⊥
   -- a purge has no line; there are the lines of a purge without a purge, and in place of a drop
@@ -60,4 +60,4 @@ pub record TellsEachWork : Type 0 where
       → Tell oldest (work.Put 6 11 body ∷ []) (put_lines 8 (report 1 body)) → ⊥
   -- it leaves and is never gone
   pub undone :
-      (oldest : Message) → Tell oldest (work.DropOldest ∷ []) (Happening.Leaving 7 cause.Confirmed ∷ []) → ⊥
+      (oldest : Message) → Tell oldest (work.DropOldest ∷ []) (Happening.Leaving 7 cause.Confirmed None ∷ []) → ⊥

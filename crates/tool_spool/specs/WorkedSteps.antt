@@ -1,6 +1,6 @@
 -- Messages that leave in the step of their cause, and behind it, in examples that can be followed by hand. The newest
 -- comes first.
-use Rattle.std.specs.Prelude.{◌≡◌, ℕ, false, true, List, [], ◌∷◌}
+use Rattle.std.specs.Prelude.{◌≡◌, ℕ, false, true, List, [], ◌∷◌, None}
 use Rattle.message_flow.specs.declared.message.Message.{Message}
 use Rattle.spool_law.specs.Shelf.{Policy}
 use Rattle.trace_log.specs.declared.names.Cause.TheVariants as cause
@@ -23,17 +23,17 @@ received body message =
 
 -- it leaves in that step; and in the one behind
 abbrev pub leaves : List Happening → List Happening
-leaves notes = Happening.Leaving 0 cause.Confirmed ∷ notes
+leaves notes = Happening.Leaving 0 cause.Confirmed None ∷ notes
 
 abbrev pub leaves_late : List Happening → List Happening
-leaves_late notes = Happening.Leaving 0 cause.Confirmed ∷ Happening.StepEnded ∷ notes
+leaves_late notes = Happening.Leaving 0 cause.Confirmed None ∷ Happening.StepEnded ∷ notes
 
 -- a request to empty the spool, in its step and behind it
 abbrev pub purged : List Happening → List Happening
-purged notes = Happening.Leaving 0 cause.Purged ∷ notes
+purged notes = Happening.Leaving 0 cause.Purged None ∷ notes
 
 abbrev pub purged_late : List Happening → List Happening
-purged_late notes = Happening.Leaving 0 cause.Purged ∷ Happening.StepEnded ∷ notes
+purged_late notes = Happening.Leaving 0 cause.Purged None ∷ Happening.StepEnded ∷ notes
 
 pub record StepsOfCauses : Type 0 where
   pub confirmed : (policy : Policy) (body : List ℕ) → LeaveInTheirSteps policy (leaves (received body (secondary 12)))
@@ -47,7 +47,7 @@ pub record StepsOfCauses : Type 0 where
   -- nor does the reply to the last try confirm another message
   pub other :
       (policy : Policy) (body : List ℕ)
-      → LeaveInTheirSteps policy (Happening.Leaving 1 cause.Confirmed ∷ received body (secondary 12)) → ⊥
+      → LeaveInTheirSteps policy (Happening.Leaving 1 cause.Confirmed None ∷ received body (secondary 12)) → ⊥
   pub late :
       (policy : Policy) (body : List ℕ) → LeaveInTheirSteps policy (leaves_late (received body (secondary 12))) → ⊥
   pub emptied :

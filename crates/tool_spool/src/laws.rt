@@ -56,15 +56,16 @@ pub fn worked_pairs()
     ensures { TellsEachWork }
 {}
 
-/// A message that is overwritten leaves for another that is put right behind it, in the same step.
+/// A message that is overwritten leaves for one that is named and put right behind it, in the same step, or for which
+/// one more leaves.
 pub fn overwrites_for_puts()
     ensures { OverwritesForPuts }
 {
     tables_are_looked_back_for();
 }
 
-/// Examples of a full spool: the oldest is overwritten by a report that is put. Where the report is discarded then, or
-/// the step ends, the law doesn't hold.
+/// Examples of a full spool: the oldest is overwritten by a report that is put, and two leave for one. Where the report
+/// is discarded then, or another is put, or the step ends, the law doesn't hold.
 pub fn worked_room()
     ensures { RoomIsMadeForPuts }
 {}

@@ -9,8 +9,8 @@ use Rattle.message_end.specs.Core.Went.{Goes, Spent}
 use Rattle.message_end.specs.Ends.{Input}
 use Rattle.message_end.specs.Parts.{Node, after_parts}
 use Rattle.spool_ledger.specs.Ledger.{LedgerView, stood_count}
+use Rattle.spool_file.specs.File.{SpoolFile}
 use Rattle.spool_slots.specs.Changes.{with_mark_moved}
-use Rattle.spool_slots.specs.File.{SpoolFile}
 use Rattle.trace_log.specs.declared.commands.ToolCommand.{ToolCommand}
 use Rattle.trace_log.specs.Log.{Happening}
 use Rattle.tool_step.specs.declared.kind.Kind.{Kind}

@@ -4,7 +4,7 @@ use Rattle.trace_log.specs.declared.commands.ToolCommand.{ToolCommand}
 use Rattle.message_end.specs.Ends.{Input}
 use Rattle.tool_step.specs.Disk.{asks, standing_in, works_of}
 use Rattle.tool_step.specs.Equipment.{EquipmentView}
-use Rattle.spool_slots.specs.Logs.{written_by}
+use Rattle.spool_file.specs.Logs.{written_by}
 use Rattle.spool_works.specs.DiskCalls.{all_disk_calls}
 
 -- they are as many, and write as many bytes, as a step asks of its disk

@@ -4,9 +4,9 @@ use Rattle.std.specs.Option.{option_map}
 use Rattle.gem_spool.specs.Works.{lists_after, standings_after}
 use Rattle.gem_states.specs.Comms.{comms_after}
 use Rattle.gem_states.specs.Control.{new_control}
+use Rattle.spool_file.specs.File.{SpoolFile}
+use Rattle.spool_file.specs.Slot.{Message}
 use Rattle.spool_slots.specs.Changes.{with_mark_moved}
-use Rattle.spool_slots.specs.File.{SpoolFile}
-use Rattle.spool_slots.specs.Slot.{Message}
 use Rattle.trace_log.specs.declared.commands.ToolCommand.{ToolCommand}
 use Rattle.trace_log.specs.Log.{Happening}
 use Rattle.trace_log.specs.Log.Happening.{EquipmentStarted}

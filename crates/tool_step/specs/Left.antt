@@ -4,12 +4,12 @@ use Rattle.std.specs.List.{slice_get}
 use Rattle.disk_base.specs.Story.{Moment}
 use Rattle.disk_base.specs.Through.{EachImage}
 use Rattle.gem_spool.specs.Standing.{Standing}
-use Rattle.spool_slots.specs.File.{StandsFor}
+use Rattle.spool_file.specs.File.{StandsFor}
 use Rattle.message_flow.specs.declared.step.StepOut.{StepOut}
 use Rattle.trace_log.specs.declared.commands.ToolCommand.{ToolCommand}
 use Rattle.trace_log.specs.Log.{Happening}
 use Rattle.message_end.specs.declared.end.Stop.{Stop}
-use Rattle.message_end.specs.declared.end.Stop.TheVariants.{DiskFailed, NoMemory, NumbersSpent}
+use Rattle.message_end.specs.declared.end.Stop.TheVariants.{DiskFailed, Full, NoMemory, NumbersSpent}
 use Rattle.message_end.specs.Core.{step_in}
 use Rattle.message_end.specs.Ends.{Input, printed}
 use Rattle.spool_works.specs.DiskWorks.{DiskWork, IsAmidWork, standings_behind}
@@ -45,4 +45,5 @@ pub record HasBegun (s : EquipmentView) (input : Input ToolCommand) (now : ℕ) 
 abbrev pub Leaves : EquipmentView → Input ToolCommand → ℕ → StepOut → Moment → Stop → Type 0
 Leaves s input now out moment NoMemory = HasBegun s input now moment
 Leaves s input now out moment NumbersSpent = Holds (standing_in (step_in (act s input now)).next) moment
+Leaves s input now out moment Full = ⊥
 Leaves s input now out moment DiskFailed = HasFailed s input now out moment

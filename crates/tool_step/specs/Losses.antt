@@ -1,7 +1,7 @@
 -- Where power may be lost in a step of the equipment, and what that leaves of its spool (this profile).
 use Rattle.std.specs.Prelude.{◌≡◌, ℕ, List, [], ◌∷◌, ◌++◌, length, map}
 use Rattle.gem_spool.specs.Standing.{Standing}
-use Rattle.spool_slots.specs.File.{SpoolFile}
+use Rattle.spool_file.specs.File.{SpoolFile}
 use Rattle.message_end.specs.Core.{step_in}
 use Rattle.message_end.specs.Ends.{Input, Loss}
 use Rattle.message_end.specs.Own.{Has}

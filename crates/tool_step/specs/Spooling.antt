@@ -4,7 +4,7 @@ use Rattle.std.specs.Prelude.{ℕ, Bool, true, false, not, ◌==◌, ◌&&◌, L
 use Rattle.std.specs.Option.{option_and_then, option_map_or, unwrap_or}
 use Rattle.gem_shapes.specs.Answers.{code_item}
 use Rattle.gem_shapes.specs.Elements.{identifier, list_of}
-use Rattle.gem_spool.specs.Rule.{covered}
+use Rattle.spool_rule.specs.Rule.{covered}
 use Rattle.message_flow.specs.declared.message.Message.{Message}
 use Rattle.secs_items.specs.declared.item.Item.{Item, out-Item}
 use Rattle.trace_log.specs.Log.{Happening}

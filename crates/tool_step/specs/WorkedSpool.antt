@@ -11,10 +11,10 @@ use Rattle.line_end.specs.declared.event.Phase.TheVariants.{Gathering}
 use Rattle.message_flow.specs.declared.message.Message.{Message}
 use Rattle.message_flow.specs.Blocks.{header_of}
 use Rattle.secs_items.specs.declared.item.Item.TheVariants as item
+use Rattle.spool_file.specs.File.{SpoolFile}
+use Rattle.spool_file.specs.Format.{empty_file}
+use Rattle.spool_file.specs.Slot as slot
 use Rattle.spool_slots.specs.Changes.{with_message}
-use Rattle.spool_slots.specs.File.{SpoolFile}
-use Rattle.spool_slots.specs.Format.{empty_file}
-use Rattle.spool_slots.specs.Slot as slot
 use Rattle.trace_log.specs.declared.commands.ToolCommand.{ToolCommand}
 use Rattle.trace_log.specs.declared.names.Cause.TheVariants.{Confirmed, Overwritten}
 use Rattle.trace_log.specs.declared.names.CommsName.TheVariants as comms
@@ -201,7 +201,11 @@ full_kept = puts (report 3 7) (on_spool (plan_with 0 0) three)
 pub record FullSpools : Type 0 where
   pub over :
       full_over.notes
-      ≡ Happening.Leaving 0 Overwritten ∷ Happening.Gone 0 ∷ Happening.Storing 3 (report 3 7) ∷ Happening.Stored 3 ∷ []
+      ≡ Happening.Leaving 0 Overwritten (Some (report 3 7))
+      ∷ Happening.Gone 0
+      ∷ Happening.Storing 3 (report 3 7)
+      ∷ Happening.Stored 3
+      ∷ []
   pub later : full_over.next.file.list ≡ kept 1 (report 1 7) ∷ kept 2 (report 2 7) ∷ kept 3 (report 3 7) ∷ []
   pub discarded : full_kept.notes ≡ Happening.Discarded event_name ∷ []
   pub same : full_kept.next.file.list ≡ three
@@ -246,7 +250,7 @@ pub record UnloadsInOrder : Type 0 where
       ∷ Happening.StepEnded
       ∷ Happening.StepEnded
       ∷ Happening.Received (accepted 0)
-      ∷ Happening.Leaving 1 Confirmed
+      ∷ Happening.Leaving 1 Confirmed None
       ∷ Happening.Gone 1
       ∷ Happening.Try 2 1
       ∷ Happening.Sent (sent 1 (report 2 5))
@@ -265,7 +269,7 @@ pub record UnloadsInOrder : Type 0 where
       ∷ Happening.StepEnded
       ∷ Happening.StepEnded
       ∷ Happening.Received (accepted 2)
-      ∷ Happening.Leaving 2 Confirmed
+      ∷ Happening.Leaving 2 Confirmed None
       ∷ Happening.Gone 2
       ∷ Happening.Try 3 3
       ∷ Happening.Sent (sent 3 (report 3 5))
@@ -273,7 +277,7 @@ pub record UnloadsInOrder : Type 0 where
       ∷ Happening.StepEnded
       ∷ Happening.StepEnded
       ∷ Happening.Received (accepted 3)
-      ∷ Happening.Leaving 3 Confirmed
+      ∷ Happening.Leaving 3 Confirmed None
       ∷ Happening.Gone 3
       ∷ Happening.Spool false
       ∷ Happening.StepEnded
@@ -342,11 +346,11 @@ pub record LosesInOrder : Type 0 where
       later_commands (drop 3 loss.duties)
       ≡ (lines_commands
       (Happening.Comms comms.WaitCra
-      ∷ Happening.Leaving 4 Overwritten
+      ∷ Happening.Leaving 4 Overwritten (Some alarm)
       ∷ Happening.Gone 4
       ∷ Happening.Storing 5 alarm
       ∷ Happening.Stored 5
-      ∷ Happening.Leaving 5 Overwritten
+      ∷ Happening.Leaving 5 Overwritten (Some long_report)
       ∷ Happening.Gone 5
       ∷ Happening.Storing 6 long_report
       ∷ Happening.Stored 6

@@ -2,14 +2,15 @@
 use Rattle.std.proofs.Common.{◌≡◌, refl, sym, ap, subst, ◌∙◌, arith, ◌+◌, ◌≤◌, Bool, true, false, ℕ, List, [], ◌∷◌, ◌++◌, append-nil, if◌then◌else◌}
 use Rattle.std.specs.Prelude.{bytes_eq}
 use Rattle.std.proofs.lemmas.List.Concat.{flat_map-append}
-use Rattle.gem_spool.specs.Rule.{is_spoolable}
+use Rattle.spool_rule.specs.Rule.{is_spoolable}
 use Rattle.gem_trace.specs.History.{Look, TraceEntry}
 use Rattle.gem_trace.specs.Traces.{Running}
 use Rattle.message_flow.specs.declared.message.Message.{Message}
 use Rattle.trace_log.specs.Log.{Happening, Past}
 use Rattle.message_end.specs.Course.{noted_behind}
 use Rattle.tool_reports.specs.Reported.{count_of}
-use Rattle.tool_reports.specs.Sampled.{HaveWait, PutsAreSpoolable, datas_in, is_data, setting_in, settings_in}
+use Rattle.spool_law.specs.Listing.{AllStoredAreSpoolable}
+use Rattle.tool_reports.specs.Sampled.{HaveWait, datas_in, is_data, setting_in, settings_in}
 use Rattle.tool_reports.proofs.QuietNotes.{counted, one, one-behind}
 
 -- no S6F1 W
@@ -30,7 +31,7 @@ IsIdleNote _ = Unit {0}
 
 -- what is said of all notes
 abbrev pub AreSound : List Happening → Type 0
-AreSound notes = HaveWait notes × PutsAreSpoolable notes
+AreSound notes = HaveWait notes × AllStoredAreSpoolable notes
 
 -- it may stand in the middle of a step: it is no start, no end of a step, and nothing that the world notes
 abbrev pub IsAmid : Happening → Type 0
@@ -65,75 +66,17 @@ idle-note (Happening.Sent message) idle = idle-sent message idle
 idle-note (Happening.Recorded (Past.Asked message)) idle = absurd idle
 idle-note (Happening.Recorded (Past.Commanded command)) idle =
     record { datas = λ before. refl; asks = λ look running. refl; amid = tt; sound = λ before so. so }
-idle-note Happening.HostStarted idle =
-    record { datas = λ before. refl; asks = λ look running. refl; amid = tt; sound = λ before so. so }
 idle-note Happening.Power idle = absurd idle
-idle-note Happening.Closed idle =
-    record { datas = λ before. refl; asks = λ look running. refl; amid = tt; sound = λ before so. so }
-idle-note (Happening.Received message) idle =
-    record { datas = λ before. refl; asks = λ look running. refl; amid = tt; sound = λ before so. so }
 idle-note (Happening.Wrote characters) idle = absurd idle
-idle-note (Happening.Comms state) idle =
-    record { datas = λ before. refl; asks = λ look running. refl; amid = tt; sound = λ before so. so }
-idle-note (Happening.Control state) idle =
-    record { datas = λ before. refl; asks = λ look running. refl; amid = tt; sound = λ before so. so }
-idle-note (Happening.Spool active) idle =
-    record { datas = λ before. refl; asks = λ look running. refl; amid = tt; sound = λ before so. so }
-idle-note (Happening.Set vid) idle =
-    record { datas = λ before. refl; asks = λ look running. refl; amid = tt; sound = λ before so. so }
-idle-note (Happening.Event ceid dataid) idle =
-    record { datas = λ before. refl; asks = λ look running. refl; amid = tt; sound = λ before so. so }
-idle-note (Happening.Alarm alid set) idle =
-    record { datas = λ before. refl; asks = λ look running. refl; amid = tt; sound = λ before so. so }
-idle-note (Happening.Carried rcmd) idle =
-    record { datas = λ before. refl; asks = λ look running. refl; amid = tt; sound = λ before so. so }
-idle-note (Happening.Display tid text) idle =
-    record { datas = λ before. refl; asks = λ look running. refl; amid = tt; sound = λ before so. so }
-idle-note Happening.Refused idle =
-    record { datas = λ before. refl; asks = λ look running. refl; amid = tt; sound = λ before so. so }
 idle-note (Happening.Storing number message) idle = record {
   datas = λ before. refl;
   asks = λ look running. refl;
   amid = tt;
   sound = λ before so. (so.0, (idle, so.1));
 }
-idle-note (Happening.Stored number) idle =
-    record { datas = λ before. refl; asks = λ look running. refl; amid = tt; sound = λ before so. so }
-idle-note (Happening.Leaving number cause) idle =
-    record { datas = λ before. refl; asks = λ look running. refl; amid = tt; sound = λ before so. so }
-idle-note (Happening.Gone number) idle =
-    record { datas = λ before. refl; asks = λ look running. refl; amid = tt; sound = λ before so. so }
-idle-note (Happening.Try number system) idle =
-    record { datas = λ before. refl; asks = λ look running. refl; amid = tt; sound = λ before so. so }
-idle-note (Happening.Duplicate header) idle =
-    record { datas = λ before. refl; asks = λ look running. refl; amid = tt; sound = λ before so. so }
-idle-note (Happening.Unexpected header) idle =
-    record { datas = λ before. refl; asks = λ look running. refl; amid = tt; sound = λ before so. so }
-idle-note (Happening.Foreign header) idle =
-    record { datas = λ before. refl; asks = λ look running. refl; amid = tt; sound = λ before so. so }
-idle-note (Happening.TooLongBlock header) idle =
-    record { datas = λ before. refl; asks = λ look running. refl; amid = tt; sound = λ before so. so }
-idle-note (Happening.Crowded header) idle =
-    record { datas = λ before. refl; asks = λ look running. refl; amid = tt; sound = λ before so. so }
-idle-note (Happening.DroppedByT4 header) idle =
-    record { datas = λ before. refl; asks = λ look running. refl; amid = tt; sound = λ before so. so }
-idle-note (Happening.Failed title) idle =
-    record { datas = λ before. refl; asks = λ look running. refl; amid = tt; sound = λ before so. so }
-idle-note (Happening.TimedOut title) idle =
-    record { datas = λ before. refl; asks = λ look running. refl; amid = tt; sound = λ before so. so }
-idle-note (Happening.Stranger title) idle =
-    record { datas = λ before. refl; asks = λ look running. refl; amid = tt; sound = λ before so. so }
-idle-note (Happening.Dropped name) idle =
-    record { datas = λ before. refl; asks = λ look running. refl; amid = tt; sound = λ before so. so }
-idle-note (Happening.Denied name) idle =
-    record { datas = λ before. refl; asks = λ look running. refl; amid = tt; sound = λ before so. so }
-idle-note (Happening.Discarded name) idle =
-    record { datas = λ before. refl; asks = λ look running. refl; amid = tt; sound = λ before so. so }
-idle-note (Happening.TooLong name) idle =
-    record { datas = λ before. refl; asks = λ look running. refl; amid = tt; sound = λ before so. so }
-idle-note (Happening.Full name) idle =
-    record { datas = λ before. refl; asks = λ look running. refl; amid = tt; sound = λ before so. so }
 idle-note Happening.StepEnded idle = absurd idle
+idle-note what idle =
+    record { datas = λ before. refl; asks = λ look running. refl; amid = tt; sound = λ before so. so }
 
 pub amid-more : (notes more : List Happening) → AreAmid notes → AreAmid more → AreAmid (notes ++ more)
 amid-more [] more one two = two
@@ -280,41 +223,10 @@ datas-grow body (what ∷ rest) before none =
         → count_of body (datas_in past) ≤ count_of body (datas_in (what ∷ past))
     one_more (Happening.EquipmentStarted found base) past none = absurd none
     one_more (Happening.Sent message) past none = sent message past (is_data message past)
-    one_more (Happening.Recorded entry) past none = same (datas_in past)
-    one_more Happening.HostStarted past none = same (datas_in past)
     one_more Happening.Power past none = absurd none
-    one_more Happening.Closed past none = same (datas_in past)
-    one_more (Happening.Received message) past none = same (datas_in past)
     one_more (Happening.Wrote characters) past none = absurd none
-    one_more (Happening.Comms state) past none = same (datas_in past)
-    one_more (Happening.Control state) past none = same (datas_in past)
-    one_more (Happening.Spool active) past none = same (datas_in past)
-    one_more (Happening.Set vid) past none = same (datas_in past)
-    one_more (Happening.Event ceid dataid) past none = same (datas_in past)
-    one_more (Happening.Alarm alid set) past none = same (datas_in past)
-    one_more (Happening.Carried rcmd) past none = same (datas_in past)
-    one_more (Happening.Display tid text) past none = same (datas_in past)
-    one_more Happening.Refused past none = same (datas_in past)
-    one_more (Happening.Storing number message) past none = same (datas_in past)
-    one_more (Happening.Stored number) past none = same (datas_in past)
-    one_more (Happening.Leaving number cause) past none = same (datas_in past)
-    one_more (Happening.Gone number) past none = same (datas_in past)
-    one_more (Happening.Try number system) past none = same (datas_in past)
-    one_more (Happening.Duplicate header) past none = same (datas_in past)
-    one_more (Happening.Unexpected header) past none = same (datas_in past)
-    one_more (Happening.Foreign header) past none = same (datas_in past)
-    one_more (Happening.TooLongBlock header) past none = same (datas_in past)
-    one_more (Happening.Crowded header) past none = same (datas_in past)
-    one_more (Happening.DroppedByT4 header) past none = same (datas_in past)
-    one_more (Happening.Failed title) past none = same (datas_in past)
-    one_more (Happening.TimedOut title) past none = same (datas_in past)
-    one_more (Happening.Stranger title) past none = same (datas_in past)
-    one_more (Happening.Dropped name) past none = same (datas_in past)
-    one_more (Happening.Denied name) past none = same (datas_in past)
-    one_more (Happening.Discarded name) past none = same (datas_in past)
-    one_more (Happening.TooLong name) past none = same (datas_in past)
-    one_more (Happening.Full name) past none = same (datas_in past)
     one_more Happening.StepEnded past none = absurd none
+    one_more what past none = same (datas_in past)
 
 -- so is what is said of those before
 pub sound-before : (rest before : List Happening) → AreSound (noted_behind rest before) → AreSound before
@@ -323,39 +235,5 @@ sound-before (what ∷ rest) before so = one_less what before (sound-before rest
   where
     one_less : (what : Happening) (past : List Happening) → AreSound (what ∷ past) → AreSound past
     one_less (Happening.Sent message) past so = (so.0.1, so.1)
-    one_less Happening.HostStarted past so = so
-    one_less Happening.Power past so = so
-    one_less Happening.Closed past so = so
-    one_less (Happening.Received message) past so = so
-    one_less (Happening.Wrote characters) past so = so
-    one_less (Happening.Comms state) past so = so
-    one_less (Happening.Control state) past so = so
-    one_less (Happening.Spool active) past so = so
-    one_less (Happening.Set vid) past so = so
-    one_less (Happening.Event ceid dataid) past so = so
-    one_less (Happening.Alarm alid set) past so = so
-    one_less (Happening.Carried rcmd) past so = so
-    one_less (Happening.Display tid text) past so = so
-    one_less Happening.Refused past so = so
     one_less (Happening.Storing number message) past so = (so.0, so.1.1)
-    one_less (Happening.Stored number) past so = so
-    one_less (Happening.Leaving number cause) past so = so
-    one_less (Happening.Gone number) past so = so
-    one_less (Happening.Try number system) past so = so
-    one_less (Happening.Duplicate header) past so = so
-    one_less (Happening.Unexpected header) past so = so
-    one_less (Happening.Foreign header) past so = so
-    one_less (Happening.TooLongBlock header) past so = so
-    one_less (Happening.Crowded header) past so = so
-    one_less (Happening.DroppedByT4 header) past so = so
-    one_less (Happening.Failed title) past so = so
-    one_less (Happening.TimedOut title) past so = so
-    one_less (Happening.Stranger title) past so = so
-    one_less (Happening.Dropped name) past so = so
-    one_less (Happening.Denied name) past so = so
-    one_less (Happening.Discarded name) past so = so
-    one_less (Happening.TooLong name) past so = so
-    one_less (Happening.Full name) past so = so
-    one_less Happening.StepEnded past so = so
-    one_less (Happening.EquipmentStarted found base) past so = so
-    one_less (Happening.Recorded entry) past so = so
+    one_less what past so = so

@@ -89,7 +89,7 @@ pub spool-idle : HasSpoolNotes IsIdleNote
 spool-idle = record {
   spool = λ active. tt;
   stored = λ number. tt;
-  leaving = λ number cause. tt;
+  leaving = λ number cause room_for. tt;
   gone = λ number. tt;
   discarded = λ name. tt;
   too_long = λ name. tt;

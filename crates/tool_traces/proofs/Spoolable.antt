@@ -2,8 +2,8 @@
 use Rattle.std.proofs.Common.{◌≡◌, ◌&&◌, ◌||◌, ◌==◌, Bool, true, false, ℕ, List, [], ◌∷◌, Option, Some, None, refl, if◌then◌else◌}
 use Rattle.std.specs.List.{cons_option, filter_map}
 use Rattle.std.specs.Prelude.{IfSome}
-use Rattle.gem_spool.specs.Rule.{covered, is_spoolable}
-use Rattle.gem_spool.specs.declared.rule.SpoolRule.{SpoolRule}
+use Rattle.spool_rule.specs.Rule.{covered, is_spoolable}
+use Rattle.spool_rule.specs.declared.rule.SpoolRule.{SpoolRule}
 use Rattle.trace_log.specs.Names.{Spooled}
 use Rattle.transact.specs.Transactions.{system_of}
 use Rattle.transact.specs.declared.begun.Begun.{Begun}

@@ -11,7 +11,7 @@ use Rattle.secs_items.specs.declared.encode_fault.EncodeFault.{EncodeFault}
 use Rattle.secs_items.specs.declared.item.Item.{Item}
 use Rattle.secs_items.specs.Encoding.{encode_fault}
 use Rattle.secs_items.specs.Spelling.{shortest_spelling}
-use Rattle.spool_slots.specs.File.{SpoolFile}
+use Rattle.spool_file.specs.File.{SpoolFile}
 use Rattle.trace_log.specs.declared.commands.ToolCommand.{ToolCommand}
 use Rattle.trace_log.specs.Log.{Happening}
 use Rattle.message_end.specs.Core.{Step, Went, and_then, at_first, step_in}

@@ -1,7 +1,7 @@
 -- What holds of the trace data of the equipment whatever it meets.
 use Rattle.std.specs.Prelude.{◌≡◌, ◌≤◌, List, [], length}
 use Rattle.gem_trace.specs.History.{traces_at}
-use Rattle.spool_slots.specs.File.{SpoolFile}
+use Rattle.spool_file.specs.File.{SpoolFile}
 use Rattle.trace_log.specs.declared.commands.ToolCommand.{ToolCommand}
 use Rattle.message_end.specs.Course.{Course, Meeting, course_of, notes_of}
 use Rattle.message_end.specs.Course.Course.{Reached, Stopped}

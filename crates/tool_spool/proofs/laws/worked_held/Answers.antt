@@ -20,7 +20,7 @@ returns c = record {
   purged = λ policy message request purges. (
     record { cause = cause.Purged; is = refl; first = refl },
     (
-      record { rest = record { none_stored = refl; none_leaves = refl }; first = refl; cause = purges },
+      record { rest = record { none_stored = refl; none_leaves = refl }; first = refl; cause = (purges, refl) },
       (tt, (refl, tt)),
     ),
   );

@@ -1,4 +1,4 @@
-use Rattle.std.proofs.Common.{◌≡◌, refl, ap, arith, ℕ}
+use Rattle.std.proofs.Common.{◌≡◌, refl, ap, arith, ℕ, Some, None}
 use Rattle.trace_log.specs.declared.names.Cause.{Cause}
 use Rattle.trace_log.specs.declared.names.Cause.TheVariants as cause
 use Rattle.spool_law.specs.Shelf.{Change}
@@ -16,7 +16,7 @@ function-in (Stores number message) = message.function
 function-in _ = 0
 
 abbrev cause-in : Change → Cause
-cause-in (Leaves number why) = why
+cause-in (Leaves number why room_for) = why
 cause-in _ = cause.Confirmed
 
 -- a purge is no removal of one message
@@ -31,6 +31,7 @@ returns c = record {
     record {
       number = 7;
       why = cause.Overwritten;
+      room_for = Some (record { stream = 6; function = function; body = body });
       first = refl;
       cause_is = tt;
       before_is = refl;
@@ -39,7 +40,15 @@ returns c = record {
     ((refl, refl), refl),
   );
   purged = λ oldest. (
-    record { number = 7; why = cause.Purged; first = refl; cause_is = tt; before_is = refl; behind_is = refl },
+    record {
+      number = 7;
+      why = cause.Purged;
+      room_for = None;
+      first = refl;
+      cause_is = tt;
+      before_is = refl;
+      behind_is = refl;
+    },
     refl,
   );
   discarded = λ oldest function body told. absurd (told.1);

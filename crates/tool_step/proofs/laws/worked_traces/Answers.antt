@@ -1,7 +1,7 @@
 -- The worked turns compute; and an S6F1 has the turn of a report, since no rule covers it.
 
 use Rattle.std.proofs.Common.{◌≡◌, refl, ◌&&◌, Bool, true, false, ℕ, List, [], if◌then◌else◌}
-use Rattle.gem_spool.specs.Rule.{covered}
+use Rattle.spool_rule.specs.Rule.{covered}
 use Rattle.secs_items.specs.declared.item.Item.{Item}
 use Rattle.trace_log.specs.Names.{Spooled, spooled_name}
 use Rattle.message_end.specs.Core.{EndView}

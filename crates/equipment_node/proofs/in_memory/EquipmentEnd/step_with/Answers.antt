@@ -1,4 +1,4 @@
-use Rattle.std.proofs.Common.{Bool, ap, subst, sym, ◌∙◌}
+use Rattle.std.proofs.Common.{Bool, false, ap, subst, sym, ◌∙◌}
 use Rattle.std.specs.Prelude.{Err}
 use Rattle.disk_base.specs.contracts.mem_disk.MemDiskDisk.TheImpl.{ghosts}
 use Rattle.message_end.specs.declared.end.Stop.{Stop}
@@ -21,9 +21,9 @@ returns-in-Err-clause-step c =
     let next = state_in ghosts c.args.self.now.plan c.args.self.now.going in
     let fronts = stops was (input_of c.args.input) c.args.now in
     let went = act was (input_of c.args.input) c.args.now in
-    subst (λ (e : Stop). Leaves fronts went next c.step.new.out (Err e)) (sym c.stop_as.ensures)
+    subst (λ (e : Stop). Leaves fronts false went next c.step.new.out (Err e)) (sym c.stop_as.ensures)
     (told-leaves fronts went next c.step.new.out _ c.stop_of-stop.result
-    (subst (λ (e : Stop). Leaves fronts went next c.step.new.out (Err e)) (sym c.stop_of-stop.ensures)
+    (subst (λ (e : Stop). Leaves fronts false went next c.step.new.out (Err e)) (sym c.stop_of-stop.ensures)
     (stops-by ghosts was (input_of c.args.input) c.args.now (node_of c.args.equipment.tool) next c.step.new.out
     c.in-Err.ended (c.in-Err.ensures.moves c.requires.power.in_state))))
 

@@ -7,7 +7,7 @@ use Rattle.equipment_node.specs.Held.{Begins, HasBegunOn, Held}
 use Rattle.equipment_node.specs.InMemory.{StartsAnew, starts_over}
 use Rattle.equipment_node.specs.StartCalls.{start_calls}
 use Rattle.equipment_node.specs.StartOver.{KeepsSure}
-use Rattle.spool_slots.specs.File.{file_in}
+use Rattle.spool_file.specs.File.{file_in}
 use Rattle.spool_works.specs.DiskCalls.{HasMade}
 use Rattle.equipment_node.proofs.FromDisk.{anew-off, anew-on}
 use Rattle.equipment_node.proofs.in_memory.EquipmentEnd.take_up.Goals as goal

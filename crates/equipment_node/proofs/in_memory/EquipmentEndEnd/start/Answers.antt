@@ -3,7 +3,7 @@ use Rattle.std.specs.Prelude.{Err}
 use Rattle.disk_base.specs.MemDisk.{DiskState}
 use Rattle.disk_base.specs.contracts.mem_disk.MemDiskDisk.TheImpl.{ghosts}
 use Rattle.gem_spool.specs.Standing.{standing_of}
-use Rattle.spool_slots.specs.Format.{empty_file}
+use Rattle.spool_file.specs.Format.{empty_file}
 use Rattle.message_end.specs.declared.end.Stop.{Stop}
 use Rattle.message_end.specs.Parts.{Node}
 use Rattle.message_end.specs.Ends.{HasGone, IsNotStopped, calls_left}

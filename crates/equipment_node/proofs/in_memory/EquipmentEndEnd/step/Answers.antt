@@ -1,4 +1,4 @@
-use Rattle.std.proofs.Common.{Option, is_some, subst, sym, ◌∙◌}
+use Rattle.std.proofs.Common.{false, Option, is_some, subst, sym, ◌∙◌}
 use Rattle.disk_base.specs.MemDisk.{DiskState}
 use Rattle.disk_base.specs.contracts.mem_disk.MemDiskDisk.TheImpl.{ghosts}
 use Rattle.message_end.specs.Ends.{EndsBy, Leaves, input_of}
@@ -16,7 +16,7 @@ returns-in-Some-clause-step c =
     let end = c.step_with.new.self in
     subst
     (λ (o : Option (Held DiskState)).
-    Leaves (stops (state_in ghosts plan o) (input_of c.args.input) c.args.now)
+    Leaves (stops (state_in ghosts plan o) (input_of c.args.input) c.args.now) false
     (act (state_in ghosts plan o) (input_of c.args.input) c.args.now) (state_in ghosts end.plan end.going)
     c.step_with.new.out c.step_with.result)
     (sym (sym c.take.ensures.value ∙ c.in-Some.is)) c.step_with.ensures.step

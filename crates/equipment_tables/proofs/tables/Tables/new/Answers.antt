@@ -5,7 +5,7 @@ use Rattle.gem_alarms.specs.declared.plan.AlarmPlan.{AlarmPlan}
 use Rattle.gem_alarms.specs.History.{alarms_at}
 use Rattle.gem_reports.specs.Reporting.{reporting_at}
 use Rattle.gem_shapes.specs.declared.entries.RuleEntry.{RuleEntry}
-use Rattle.gem_spool.specs.Rule.{rule_of}
+use Rattle.spool_rule.specs.Rule.{rule_of}
 use Rattle.equipment_tables.proofs.ReportTables.{same_state}
 use Rattle.equipment_tables.proofs.tables.Tables.new.Goals as goal
 

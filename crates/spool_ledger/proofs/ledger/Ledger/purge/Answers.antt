@@ -1,6 +1,6 @@
 -- Without any message it stays a ledger.
 
-use Rattle.std.proofs.Common.{rules, ap, ℕ, ◌+◌}
+use Rattle.std.proofs.Common.{rules, None, ap, ℕ, ◌+◌}
 use Rattle.spool_ledger.proofs.Keeping.{all_out_keeps}
 use Rattle.spool_ledger.proofs.ledger.Ledger.purge.Goals as goal
 
@@ -8,3 +8,6 @@ pub invariant_of-self-2 : goal.invariant_of-self-2
 invariant_of-self-2 c =
     all_out_keeps _ _ c.push.new.self c.self.invariant (ap (λ (n : ℕ). c.self.inside.stand.first + n) c.from.ensures)
     (search rules)
+
+pub returns-clause-notes : goal.returns-clause-notes
+returns-clause-notes c = let notes = c.in_ok-note_leaving.ensures.notes None in search rules
