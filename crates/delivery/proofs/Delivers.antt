@@ -3,7 +3,6 @@ use Rattle.std.specs.Prelude.{◌≡◌, ◌==◌, ◌&&◌, ◌%◌, ℕ, Bool,
 use Rattle.std.proofs.Common.{ap, arith}
 use Rattle.std.proofs.lemmas.Bool.Decides.{nat_tests}
 use Rattle.gl_base.specs.declared.side.Side.{Side}
-use Rattle.gl_base.specs.declared.side.Side.TheVariants.{Equipment, Host}
 use Rattle.gl_base.specs.Side.{other_side}
 use Rattle.line_end.specs.Plan.{TimesFit}
 use Rattle.line_order.specs.Acts.{HasNoSlip}
@@ -12,16 +11,17 @@ use Rattle.message_end.specs.Doings.{IsPlain, own_of}
 use Rattle.message_end.specs.Doings.Doing.{Calls, Does, Gives, Says}
 use Rattle.message_end.specs.Own.{MaySend, whole_in}
 use Rattle.message_end.specs.Own.Own.{DrewNumber, DroppedMessage, GaveBlock, HeardBlock, ReceivedMessage, SentMessage, WroteFrame}
-use Rattle.message_end.specs.Log.{log_of, noted_at, start_of, with_note}
+use Rattle.message_end.specs.Log.{log_of, noted_at, with_note}
 use Rattle.message_end.specs.Moves.{KeepLaws, Kind, LinePlans, MayMove, Move, act_of, deeds_of, newest_place, plan_at, run_at, seen_at}
 use Rattle.message_end.specs.Moves.Kind.{Added, Changed, Did, Lost, Started}
 use Rattle.message_flow.specs.declared.message.Message.{Message}
 use Rattle.message_flow.specs.Laws.{BlocksMakeMessages}
 use Rattle.message_flow.specs.Message.{is_primary}
 use Rattle.trace_log.specs.Delivered.{Delivered, GoesOn, is_same_key}
+use Rattle.message_end.specs.Starts.{IsStartOf}
+use Rattle.message_end.specs.Starts.IsStartOf.{of_equipment, of_host, of_journal}
 use Rattle.trace_log.specs.Log.{Entry, Happening}
 use Rattle.trace_log.specs.Log.Entry.{Noted}
-use Rattle.trace_log.specs.Names.{Spooled}
 use Rattle.delivery.specs.Laws.{Deliver, EndsDeliver}
 use Rattle.delivery.specs.Order.{KindInOrder}
 use Rattle.delivery.proofs.Ends.{history_of, line_side}
@@ -52,10 +52,12 @@ plain-goes-on moment side (Happening.Sent message) before plain = absurd plain
 plain-goes-on moment side (Happening.Received message) before plain = absurd plain
 plain-goes-on moment side what before plain = tt
 
-start-goes-on : (moment : ℕ) (side : Side) (found : List (ℕ × Spooled)) (base : ℕ) (before : List Entry)
-    → GoesOn (Noted moment side (start_of side found base)) before
-start-goes-on moment Equipment found base before = tt
-start-goes-on moment Host found base before = tt
+start-goes-on :
+    (moment : ℕ) (side of : Side) (note : Happening) (base : ℕ) (before : List Entry) → IsStartOf of note base
+    → GoesOn (Noted moment side note) before
+start-goes-on moment side _ _ _ before (of_equipment found base) = tt
+start-goes-on moment side _ _ _ before (of_host base) = tt
+start-goes-on moment side _ _ _ before (of_journal found base) = tt
 
 module _ (plans : LinePlans) (fits : TimesFit plans.equipment.times) (other_fits : TimesFit plans.host.times)
     (make : BlocksMakeMessages) where
@@ -94,7 +96,7 @@ module _ (plans : LinePlans) (fits : TimesFit plans.equipment.times) (other_fits
   in-order-now side (Did (Gives place number block now)) before is may = tt
   in-order-now side (Did (Calls call)) before is may = tt
   in-order-now side (Did (Says what)) before is may = tt
-  in-order-now side (Started found base) before is may = tt
+  in-order-now side (Started note base) before is may = tt
   in-order-now side Lost before is may = tt
   in-order-now side (Changed place byte) before is may = tt
   in-order-now side (Added byte) before is may = tt
@@ -142,8 +144,8 @@ module _ (plans : LinePlans) (fits : TimesFit plans.equipment.times) (other_fits
   delivered-now side moment (Did (Calls call)) before is laws may earlier = earlier
   delivered-now side moment (Did (Says what)) before is laws may earlier =
       (plain-goes-on moment side what (log_of before) may.0.1, earlier)
-  delivered-now side moment (Started found base) before is laws may earlier =
-      (start-goes-on moment side found base (log_of before), earlier)
+  delivered-now side moment (Started note base) before is laws may earlier =
+      (start-goes-on moment side (plan_at side plans).side note base (log_of before) may.0, earlier)
   delivered-now side moment Lost before is laws may earlier = earlier
   delivered-now side moment (Changed place byte) before is laws may earlier = earlier
   delivered-now side moment (Added byte) before is laws may earlier = earlier

@@ -8,10 +8,12 @@ pub mod Hearing
 pub mod Lists
 pub mod Logs
 pub mod Moving
+pub mod Notes
 pub mod Playing
 pub mod Receiving
 pub mod Receptions
 pub mod Runs
+pub mod Scenes
 pub mod Sending
 pub mod Sound
 pub mod Steps

@@ -19,16 +19,17 @@ use Rattle.message_end.specs.Doings.Doing.{Calls, Does, Gives, Says}
 use Rattle.message_end.specs.Own.{Giving, Has, Own, given_in, received_in, sent_in}
 use Rattle.message_end.specs.Own.Own.{DrewNumber, DroppedMessage, GaveBlock, HeardBlock, ReceivedMessage, SentMessage, WroteFrame}
 use Rattle.message_end.specs.Plan.{EndPlan, receiver_of}
-use Rattle.message_end.specs.Log.{log_of, noted_at, noted_of, start_of, with_note}
+use Rattle.message_end.specs.Log.{log_of, noted_at, noted_of, with_note}
 use Rattle.message_end.specs.Moves.{KeepLaws, Kind, LinePlans, MayMove, Move, Run, all_sent, plan_at, run_after, run_at, seen_at}
 use Rattle.message_end.specs.Moves.Kind.{Added, Changed, Did, Lost, Started}
 use Rattle.message_flow.specs.declared.message.Message.{Message}
 use Rattle.message_flow.specs.Message.{is_primary}
 use Rattle.message_flow.specs.Receiver.{Receiver}
 use Rattle.trace_log.specs.Delivered.{WasSent, delivers_like, is_same_key, sends_like, since_start, starts}
+use Rattle.message_end.specs.Starts.{IsStartOf}
+use Rattle.message_end.specs.Starts.IsStartOf.{of_equipment, of_host, of_journal}
 use Rattle.trace_log.specs.Log.{Entry, Happening}
 use Rattle.trace_log.specs.Log.Entry.{Noted}
-use Rattle.trace_log.specs.Names.{Spooled}
 
 -- ---- what a call of the line leaves as it is
 
@@ -82,7 +83,7 @@ sent-after plan arrived side (Did (Calls call)) run m has =
     (call-keeps (receiver_of plan) call (line_of plan run.doings) (own_of plan run.doings)).0
     has)
 sent-after plan arrived side (Did (Says what)) run m has = inr has
-sent-after plan arrived side (Started found base) run m has = inr has
+sent-after plan arrived side (Started note base) run m has = inr has
 sent-after plan arrived side Lost run m has = inr has
 sent-after plan arrived side (Changed place byte) run m has = inr has
 sent-after plan arrived side (Added byte) run m has = inr has
@@ -177,7 +178,7 @@ quiet-plain : (side : Side) (m : Message) (moment : ℕ) (what : Happening) → 
 quiet-plain side m moment (Happening.Sent other) plain = absurd plain
 quiet-plain side m moment (Happening.Received other) plain = absurd plain
 quiet-plain side m moment (Happening.EquipmentStarted found base) plain = absurd plain
-quiet-plain side m moment Happening.HostStarted plain = absurd plain
+quiet-plain side m moment (Happening.HostStarted journal) plain = absurd plain
 quiet-plain Equipment m moment what plain = quiet Equipment m (Noted moment Equipment what) refl refl refl
 quiet-plain Host m moment what plain = quiet Host m (Noted moment Host what) refl refl refl
 
@@ -222,16 +223,24 @@ quiet-other Host Host m moment noted apart = cc
 abbrev pub ReceivedAt : Side → LinePlans → List Move → List Message
 ReceivedAt side plans moves = received_in (own_of (plan_at side plans) (run_at side plans moves).doings)
 
-start-ends : (side : Side) (m : Message) (moment : ℕ) (found : List (ℕ × Spooled)) (base : ℕ)
-    (log : List Entry)
-    → NoneDelivers side m (Noted moment side (start_of side found base) ∷ log)
-start-ends Equipment m moment found base log = All-nil (λ (e : Entry). delivers_like Equipment m e ≡ false)
-start-ends Host m moment found base log = All-nil (λ (e : Entry). delivers_like Host m e ≡ false)
+start-ends :
+    (side : Side) (m : Message) (moment : ℕ) (note : Happening) (base : ℕ) (log : List Entry)
+    → IsStartOf side note base → NoneDelivers side m (Noted moment side note ∷ log)
+start-ends _ m moment _ _ log (of_equipment found base) = All-nil (λ (e : Entry). delivers_like Equipment m e ≡ false)
+start-ends _ m moment _ _ log (of_host base) = All-nil (λ (e : Entry). delivers_like Host m e ≡ false)
+start-ends _ m moment _ _ log (of_journal found base) = All-nil (λ (e : Entry). delivers_like Host m e ≡ false)
 
-start-sends-not : (side : Side) (m : Message) (moment : ℕ) (found : List (ℕ × Spooled)) (base : ℕ)
-    → sends_like side m (Noted moment side (start_of side found base)) ≡ false
-start-sends-not Equipment m moment found base = refl
-start-sends-not Host m moment found base = refl
+start-sends-not :
+    (side of : Side) (m : Message) (moment : ℕ) (note : Happening) (base : ℕ) → IsStartOf of note base
+    → sends_like side m (Noted moment side note) ≡ false
+start-sends-not side _ m moment _ _ (of_equipment found base) = refl
+start-sends-not side _ m moment _ _ (of_host base) = refl
+start-sends-not side _ m moment _ _ (of_journal found base) = refl
+
+-- the plan of an end is of its side
+of-plan : (side : Side) (plans : LinePlans) → (plan_at side plans).side ≡ side
+of-plan Equipment plans = refl
+of-plan Host plans = refl
 
 received-quiet : (side : Side) (m other : Message) (moment : ℕ) → is_same_key m other ≡ false
     → IsQuiet side m (Noted moment side (Happening.Received other))
@@ -314,7 +323,9 @@ none-delivers side plans (move ∷ before) m laws apart =
             → NoneDelivers by m (with_note move.moment by (noted_at by kind) (log_of before))
         cases (Did doing) can apart_here =
             doing-delivers by plans move.moment doing before (run_at by plans before) m can.0 apart_here earlier
-        cases (Started found base) can apart_here = start-ends by m move.moment found base (log_of before)
+        cases (Started note base) can apart_here =
+            start-ends by m move.moment note base (log_of before)
+            (subst (λ (side : Side). IsStartOf side note base) (of-plan by plans) can.0)
         cases Lost can apart_here = earlier apart_here
         cases (Changed place byte) can apart_here = earlier apart_here
         cases (Added byte) can apart_here = earlier apart_here
@@ -381,9 +392,9 @@ kind-sends side plan arrived way moment (Did (Calls call)) log run m may new ear
     kept = (call-keeps (receiver_of plan) call (line_of plan run.doings) (own_of plan run.doings)).0
 kind-sends side plan arrived way moment (Did (Says what)) log run m may new earlier =
     none-sends-more side m (Noted moment side what) log (quiet-plain side m moment what may.0.1).sends_not (earlier new)
-kind-sends side plan arrived way moment (Started found base) log run m may new earlier =
-    none-sends-more side m (Noted moment side (start_of side found base)) log
-    (start-sends-not side m moment found base) (earlier new)
+kind-sends side plan arrived way moment (Started note base) log run m may new earlier =
+    none-sends-more side m (Noted moment side note) log (start-sends-not side plan.side m moment note base may.0)
+    (earlier new)
 kind-sends side plan arrived way moment Lost log run m may new earlier = earlier new
 kind-sends side plan arrived way moment (Changed place byte) log run m may new earlier = earlier new
 kind-sends side plan arrived way moment (Added byte) log run m may new earlier = earlier new

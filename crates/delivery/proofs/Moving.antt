@@ -85,7 +85,7 @@ pub can-act : (plan : EndPlan) (way : List Character) (run : Run) (kind : Kind) 
 can-act plan way run (Did doing) s same may =
     subst (λ (state : LineState). CanDoOne state (act_of_doing doing)) (sym same)
     (can-do plan run doing may.0)
-can-act plan way run (Started found base) s same may = tt
+can-act plan way run (Started note base) s same may = tt
 can-act plan way run Lost s same may = tt
 can-act plan way run (Changed place byte) s same may = tt
 can-act plan way run (Added byte) s same may = tt
@@ -247,7 +247,7 @@ module _ (make : BlocksMakeMessages) (plan other : EndPlan) where
           slip order (record { here_state = is.here_state; there_state = is.there_state; ends = is.ends }))
   move-step view run theirs (Did (Calls (Tick now))) may slip order is =
       called-step [] (Tick now) view run theirs may.0 slip order is
-  move-step view run theirs (Started found base) may slip order is = record {
+  move-step view run theirs (Started note base) may slip order is = record {
     here_state =
         ap (λ (side : Side). new_state side view.here.state.times)
         (ap (λ (s : LineState). s.side) is.here_state ∙ side-kept plan run.doings)
@@ -257,7 +257,7 @@ module _ (make : BlocksMakeMessages) (plan other : EndPlan) where
     ends =
         ends-started plan other (line_side view.here view.written view.lost)
         (line_side view.there view.written view.lost)
-        (history_of plan run) (history_of other theirs) is.ends base may.least may.above refl;
+        (history_of plan run) (history_of other theirs) is.ends base may.1.least may.1.above refl;
   }
   move-step view run theirs Lost may slip order is =
       record { here_state = is.here_state; there_state = is.there_state; ends = is.ends }

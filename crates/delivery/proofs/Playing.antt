@@ -35,7 +35,7 @@ history_after plan s arrived (Did (Does own)) h =
 history_after plan s arrived (Did (Gives place number block now)) h = record h { own = GaveBlock place number ∷ h.own }
 history_after plan s arrived (Did (Calls call)) h = record h { own = with_call (receiver_of plan) call s h.own }
 history_after plan s arrived (Did (Says what)) h = h
-history_after plan s arrived (Started found base) h = record {
+history_after plan s arrived (Started note base) h = record {
   base = base;
   own = [];
   places = [];
@@ -59,7 +59,7 @@ history-after plan s arrived (Did (Calls call)) run same =
     })
     (sym same)
 history-after plan s arrived (Did (Says what)) run same = refl
-history-after plan s arrived (Started found base) run same = refl
+history-after plan s arrived (Started note base) run same = refl
 history-after plan s arrived Lost run same = refl
 history-after plan s arrived (Changed place byte) run same = refl
 history-after plan s arrived (Added byte) run same = refl
@@ -75,7 +75,8 @@ may-move plan s way run (Did (Gives place number block now)) same on_way may = (
 may-move plan s way run (Did (Calls call)) same on_way may =
     (subst (λ (state : LineState). MayCall plan.side state (own_of plan run.doings) call) same may, on_way)
 may-move plan s way run (Did (Says what)) same on_way may = (may, on_way)
-may-move plan s way run (Started found base) same on_way may = record { least = may.0; above = may.1 }
+may-move plan s way run (Started note base) same on_way may =
+    (may.0, record { least = may.1; above = may.2 })
 may-move plan s way run Lost same on_way may = tt
 may-move plan s way run (Changed place byte) same on_way may = tt
 may-move plan s way run (Added byte) same on_way may = tt
@@ -105,7 +106,7 @@ state-after plan view run (Did (Calls (Take byte now))) same on_way =
     state-taken plan view run byte now view.there.under_way same on_way
 state-after plan view run (Did (Calls (Tick now))) same on_way =
     ap (λ (s : LineState). (line_step s (Tick now)).next) same
-state-after plan view run (Started found base) same on_way =
+state-after plan view run (Started note base) same on_way =
     ap (λ (side : Side). new_state side view.here.state.times)
     (ap (λ (s : LineState). s.side) same ∙ side-kept plan run.doings)
     ∙ ap (λ (times : Times). new_state plan.side times)

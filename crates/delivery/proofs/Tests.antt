@@ -23,6 +23,7 @@ use Rattle.message_end.specs.Own.Own.{DrewNumber, DroppedMessage, GaveBlock, Hea
 use Rattle.message_end.specs.Plan.{EndPlan, block_of, receiver_of}
 use Rattle.message_end.specs.Moves.{IsCallOnWay, IsNextByte, IsOnWay, Kind}
 use Rattle.message_end.specs.Moves.Kind.{Added, Changed, Did, Lost, Started}
+use Rattle.message_end.specs.Starts.{IsStartOf}
 use Rattle.message_flow.specs.declared.message.Message.{Message}
 use Rattle.message_flow.specs.Blocks.{block_count, header_of}
 use Rattle.message_flow.specs.Laws.{MessagesGoInBlocks}
@@ -30,6 +31,7 @@ use Rattle.message_flow.specs.Message.{IsMessage, is_primary}
 use Rattle.message_flow.proofs.Keys.{beq-true}
 use Rattle.transact.specs.Matching.{matches}
 use Rattle.delivery.proofs.Ends.{History}
+use Rattle.delivery.proofs.Notes.{is_plain, plain-so, starts-so, starts_so}
 
 -- its law, by the state of its line and its history
 abbrev pub MayPlay : EndPlan → LineState → List Character → History → Kind → Type 0
@@ -38,15 +40,15 @@ MayPlay plan s way h (Did (Does own)) =
 MayPlay plan s way h (Did (Gives place number block now)) = MayGiveBlock plan s h.own place number block now
 MayPlay plan s way h (Did (Calls call)) = MayCall plan.side s h.own call
 MayPlay plan s way h (Did (Says what)) = IsInTurn (whole_in h.own) (Says what) × IsPlain what
-MayPlay plan s way h (Started found base) =
-    (h.base ≤ base) × ((drawn : ℕ) → Has (drawn_in h.own) drawn → drawn < base)
+MayPlay plan s way h (Started note base) =
+    IsStartOf plan.side note base × (h.base ≤ base) × ((drawn : ℕ) → Has (drawn_in h.own) drawn → drawn < base)
 MayPlay plan s way h Lost = Unit {0}
 MayPlay plan s way h (Changed place byte) = Unit {0}
 MayPlay plan s way h (Added byte) = Unit {0}
 
 abbrev pub IsTakenOnWay : List Character → Kind → Type 0
 IsTakenOnWay way (Did doing) = IsOnWay way doing
-IsTakenOnWay way (Started found base) = Unit {0}
+IsTakenOnWay way (Started note base) = Unit {0}
 IsTakenOnWay way Lost = Unit {0}
 IsTakenOnWay way (Changed place byte) = Unit {0}
 IsTakenOnWay way (Added byte) = Unit {0}
@@ -519,7 +521,7 @@ is_doing_on_way way (Says what) = true
 
 abbrev pub is_on_way : List Character → Kind → Bool
 is_on_way way (Did doing) = is_doing_on_way way doing
-is_on_way way (Started found base) = true
+is_on_way way (Started note base) = true
 is_on_way way Lost = true
 is_on_way way (Changed place byte) = true
 is_on_way way (Added byte) = true
@@ -529,7 +531,7 @@ on-way way (Did (Calls call)) is = call-on-way way call is
 on-way way (Did (Does own)) is = tt
 on-way way (Did (Gives place number block now)) is = tt
 on-way way (Did (Says what)) is = tt
-on-way way (Started found base) is = tt
+on-way way (Started note base) is = tt
 on-way way Lost is = tt
 on-way way (Changed place byte) is = tt
 on-way way (Added byte) is = tt
@@ -540,11 +542,12 @@ doing_allowed plan s h (Gives place number block now) = false
 doing_allowed plan s h (Calls call) =
     is_in_turn (whole_in h.own) (Calls call) && can_call s call
     && can_write (writes_frame (line_step s call).written) plan.side h.own
-doing_allowed plan s h (Says what) = false
+doing_allowed plan s h (Says what) = is_in_turn (whole_in h.own) (Says what) && is_plain what
 
 abbrev pub kind_allowed : EndPlan → LineState → History → Kind → Bool
 kind_allowed plan s h (Did doing) = doing_allowed plan s h doing
-kind_allowed plan s h (Started found base) = nat_le h.base base && all_below base (drawn_in h.own)
+kind_allowed plan s h (Started note base) =
+    starts_so plan.side note base && nat_le h.base base && all_below base (drawn_in h.own)
 kind_allowed plan s h Lost = true
 kind_allowed plan s h (Changed place byte) = true
 kind_allowed plan s h (Added byte) = true
@@ -568,11 +571,19 @@ kind-allowed plan s way h (Did (Calls call)) is =
       can = can.1;
       frame = can-write plan.side (writes_frame (line_step s call).written) h.own both.1;
     }
-kind-allowed plan s way h (Did (Says what)) is = cc
-kind-allowed plan s way h (Started found base) is =
-    let parts = both-true (nat_le h.base base) (all_below base (drawn_in h.own)) is in
-    let test = parts.0 in
-    (grind (arith, nat_tests), all-below base (drawn_in h.own) parts.1)
+kind-allowed plan s way h (Did (Says what)) is =
+    let both = both-true (is_in_turn (whole_in h.own) (Says what)) (is_plain what) is in
+    (in-turn (whole_in h.own) (Says what) both.0, plain-so what both.1)
+kind-allowed plan s way h (Started note base) is =
+    let both =
+    both-true (starts_so plan.side note base && nat_le h.base base) (all_below base (drawn_in h.own)) is
+    in
+    let first = both-true (starts_so plan.side note base) (nat_le h.base base) both.0 in
+    let test = first.1 in (
+      starts-so plan.side note base first.0,
+      grind (arith, nat_tests),
+      all-below base (drawn_in h.own) both.1,
+    )
 kind-allowed plan s way h Lost is = tt
 kind-allowed plan s way h (Changed place byte) is = tt
 kind-allowed plan s way h (Added byte) is = tt

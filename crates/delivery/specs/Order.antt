@@ -42,7 +42,7 @@ DoingInOrder (Says what) plan there here place = Unit {0}
 
 abbrev pub KindInOrder : Kind → EndPlan → Run → Run → ℕ → Type 0
 KindInOrder (Did doing) plan there here place = DoingInOrder doing plan there here place
-KindInOrder (Started found base) plan there here place = Unit {0}
+KindInOrder (Started note base) plan there here place = Unit {0}
 KindInOrder Lost plan there here place = Unit {0}
 KindInOrder (Changed at byte) plan there here place = Unit {0}
 KindInOrder (Added byte) plan there here place = Unit {0}

@@ -19,6 +19,7 @@ use Rattle.message_end.specs.Plan.{block_of}
 use Rattle.message_end.specs.Log.{log_of}
 use Rattle.message_end.specs.Moves.{KeepLaws, Kind, LinePlans, MayMove, Move, deeds_of, plan_at, run_at, seen_at}
 use Rattle.message_end.specs.Moves.Kind.{Added, Did, Lost, Started}
+use Rattle.trace_log.specs.Log.Happening.{EquipmentStarted}
 use Rattle.message_flow.specs.declared.message.Message.{Message}
 use Rattle.trace_log.specs.Delivered.{Delivered}
 
@@ -140,7 +141,7 @@ by_turns =
 abbrev pub loss : List Scene
 loss =
     Block Equipment 20 long_answer 1 2
-    ∷ One Equipment 21 (Started [] 2)
+    ∷ One Equipment 21 (Started (EquipmentStarted [] 2) 2)
     ∷ One Host 30 (does (DrewNumber 2))
     ∷ One Host 30 (does (SentMessage second_question))
     ∷ Block Host 30 second_question 1 1
@@ -183,7 +184,7 @@ opening =
 abbrev pub repeated : List Scene
 repeated =
     opening
-    ++ One Equipment 4 (Started [] 0)
+    ++ One Equipment 4 (Started (EquipmentStarted [] 0) 0)
     ∷ One Host 10002 (Did (Calls (Tick 10002)))
     ∷ transfer Host 10003 first_question 1
     ++ One Equipment 10005 (does (ReceivedMessage first_question))
@@ -226,7 +227,7 @@ answered =
     ∷ Takes Equipment 7 (eot ∷ [])
     ∷ Takes Host 8 (frame_of Equipment answer 1)
     ∷ One Host 8 (does (ReceivedMessage answer))
-    ∷ One Equipment 9 (Started [] 0)
+    ∷ One Equipment 9 (Started (EquipmentStarted [] 0) 0)
     ∷ One Host 9 (Did (Calls (Resume 9)))
     ∷ Takes Equipment 10 (enq ∷ [])
     ∷ []

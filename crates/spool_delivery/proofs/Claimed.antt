@@ -69,11 +69,11 @@ gone-first shelf account number tied may = record {
   first = first-of shelf account number tied may.first;
 }
 
-leaves-first : (policy : Policy) (before : List Entry) (number : ℕ) (why : Cause)
+leaves-first : (policy : Policy) (before : List Entry) (number : ℕ) (why : Cause) (room_for : Option Spooled)
     → IsTied (shelf_of (equipment_notes before)) (account_of before)
-    → MayLeave policy (equipment_notes before) number why → IsTakenFor why (account_of before)
-    → LeavesFirst policy before number why
-leaves-first policy before number why tied may taken =
+    → MayLeave policy (equipment_notes before) number why room_for → IsTakenFor why (account_of before)
+    → LeavesFirst policy before number why room_for
+leaves-first policy before number why room_for tied may taken =
     let it = first-put (shelf_of (equipment_notes before)).stands
     (account_of before).standing number tied.stands may.first in
     record {
@@ -82,15 +82,18 @@ leaves-first policy before number why tied may taken =
       rest = it.1;
       first = it.2;
       number_is = it.3;
-      cause = of why may taken it.0 it.1 it.2;
+      cause = of why room_for may taken it.0 it.1 it.2;
     }
   where
-    of : (why : Cause) → MayLeave policy (equipment_notes before) number why → IsTakenFor why (account_of before)
-        → (put : Put) (rest : List Put) → (account_of before).standing ≡ put ∷ rest → HasCause policy before put why
-    of cause.Confirmed may taken put rest first = taken put rest first
-    of cause.Purged may taken put rest first = may.cause
-    of cause.Overwritten may taken put rest first =
-        subst (λ (ss : List (ℕ × Spooled)). policy.overwrites (equipment_notes before) ss ≡ true) tied.stands may.cause
+    of : (why : Cause) (room_for : Option Spooled) → MayLeave policy (equipment_notes before) number why room_for
+        → IsTakenFor why (account_of before) → (put : Put) (rest : List Put)
+        → (account_of before).standing ≡ put ∷ rest → HasCause policy before put why room_for
+    of cause.Confirmed room_for may taken put rest first = (taken put rest first, may.cause.1)
+    of cause.Purged room_for may taken put rest first = may.cause
+    of cause.Overwritten None may taken put rest first = absurd may.cause
+    of cause.Overwritten (Some message) may taken put rest first =
+        subst (λ (ss : List (ℕ × Spooled)). policy.overwrites (equipment_notes before) ss message ≡ true) tied.stands
+        may.cause
 
 kept-change : (policy : Policy) (before : List Entry) (change : Change)
     → IsTied (shelf_of (equipment_notes before)) (account_of before)
@@ -98,7 +101,8 @@ kept-change : (policy : Policy) (before : List Entry) (change : Change)
     → IsKeptBy policy (Changes change) before
 kept-change policy before (Finds found) tied may taken new =
     found-of (shelf_of (equipment_notes before)) (account_of before) found tied may
-kept-change policy before (Leaves number why) tied may taken new = leaves-first policy before number why tied may taken
+kept-change policy before (Leaves number why room_for) tied may taken new =
+    leaves-first policy before number why room_for tied may taken
 kept-change policy before (Stores number message) tied may taken new =
     put-behind (shelf_of (equipment_notes before)) (account_of before) number tied may
 kept-change policy before (HasStored number) tied may taken new =

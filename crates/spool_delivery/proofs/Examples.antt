@@ -1,253 +1,104 @@
 -- The worked logs and the worked run.
-use Rattle.std.specs.Prelude.{◌≡◌, ◌<◌, ℕ, true, false, List, [], ◌∷◌, ◌++◌, None, Some, refl}
-use Rattle.std.proofs.Common.{sym, ap, subst, arith, rules, inl, inr}
-use Rattle.delivery.specs.Worked.{Scene, does, moves_after, plans, scene_after, takes_after, transfer}
-use Rattle.delivery.specs.Worked.Scene.{Block, One, Takes}
+use Rattle.std.specs.Prelude.{◌≡◌, ◌<◌, ℕ, Bool, true, false, List, [], ◌∷◌, None, Some, refl}
+use Rattle.std.proofs.Common.{sym, ap, arith, rules, inl, inr}
+use Rattle.delivery.specs.Worked.{Scene, moves_after, plans}
 use Rattle.delivery.proofs.Examples.{new_play, stands-new}
-use Rattle.delivery.proofs.Ends.{History}
-use Rattle.delivery.proofs.Playing.{Keeps, Play, Stands, all_may, goes-on, goes_on, move_played, played, plays-on, stands-on}
+use Rattle.delivery.proofs.Playing.{Keeps, Stands, all_may, played, plays-on}
+use Rattle.delivery.proofs.Scenes.{AllMay, Kept, kept-after}
 use Rattle.gl_base.specs.declared.side.Side.{Side}
 use Rattle.gl_base.specs.declared.side.Side.TheVariants.{Equipment, Host}
 use Rattle.line_end.specs.Frames.{block_in, is_frame, sum_cause}
-use Rattle.line_end.specs.Step.{ack}
-use Rattle.line_end.specs.Step.LineCall.{Take}
-use Rattle.message_end.specs.Doings.{IsInTurn, IsPlain}
-use Rattle.message_end.specs.Doings.Doing.{Calls, Gives, Says}
-use Rattle.message_end.specs.Own.{Has, whole_in}
-use Rattle.message_end.specs.Own.Own.{DrewNumber, ReceivedMessage, SentMessage}
-use Rattle.message_end.specs.Plan.{block_of}
+use Rattle.line_end.specs.Step.{LineCall}
+use Rattle.message_end.specs.Doings.{own_of}
+use Rattle.message_end.specs.Doings.Doing.{Calls, Does, Gives, Says}
+use Rattle.message_end.specs.Own.{Has, Own}
 use Rattle.message_end.specs.Log.{log_of}
-use Rattle.message_end.specs.Moves.{KeepLaws, Move, plan_at}
-use Rattle.message_end.specs.Moves.Kind.{Did, Started}
+use Rattle.message_end.specs.Moves.{KeepLaws, Kind, Move, plan_at, run_at}
+use Rattle.message_end.specs.Moves.Kind.{Added, Changed, Did, Lost, Started}
 use Rattle.message_flow.specs.declared.message.Message.{Message}
 use Rattle.message_flow.specs.Laws.{MessagesGoInBlocks}
 use Rattle.trace_log.specs.declared.names.Cause.TheVariants as cause
-use Rattle.trace_log.specs.Log.{Happening}
-use Rattle.trace_log.specs.Log.Happening.{Gone, Leaving, Power, Stored, Storing, Try}
+use Rattle.trace_log.specs.Log.Happening.{Power}
 use Rattle.trace_log.specs.Names.{Spooled}
-use Rattle.spool_law.specs.Shelf.{Carries, KeepsSpool}
-use Rattle.spool_law.specs.Tries.{IsNewest, KeepsTries, MayTryAt}
+use Rattle.spool_law.specs.Shelf.{Carries, Change, KeepsSpool, change_of}
+use Rattle.spool_law.specs.Tries.{IsNewest, KeepsTries, MaySayTried, MayTryAt, tries_in}
 use Rattle.spool_delivery.specs.Account.{Put}
 use Rattle.spool_delivery.specs.Claims.{equipment_notes}
-use Rattle.spool_delivery.specs.Worked.{AreNotKept, BreakOrder, UnloadsAfterLoss, at_equipment, first_report, found_both, found_first, plain_policy, reply, report, says, sent_report, unload, unload_moves}
+use Rattle.spool_delivery.specs.Worked.{AreNotKept, BreakOrder, UnloadsAfterLoss, at_equipment, first_report, found_first, plain_policy, reply, report, sent_report, unload, unload_moves}
 
 keeps-laws : Keeps plans (KeepLaws plans)
 keeps-laws move before may laws = (may, laws)
 
--- a note leaves all as it is
-says-on : (moment : ℕ) (what : Happening) (play : Play) (moves : List Move)
-    → goes_on plans Equipment (says what) play ≡ true → IsInTurn (whole_in play.equipment.own) (Says what)
-    → IsPlain what
-    → Stands plans (KeepLaws plans) play moves
-    → Stands plans (KeepLaws plans) (move_played plans Equipment (says what) play)
-    (record { side = Equipment; moment = moment; kind = says what } ∷ moves)
-says-on moment what play moves goes turn plain is = record {
-  moves_are =
-      stands-on plans Equipment moment (says what) play moves (goes-on plans Equipment (says what) play goes)
-      is.moves_are;
-  laws = (
-    (
-      (subst (λ (h : History). IsInTurn (whole_in h.own) (Says what)) (sym is.moves_are.equipment_is) turn, plain),
-      tt,
-    ),
-    is.laws,
-  );
-}
+-- scenes that may be played keep the laws of both ends
+pub stands-after : MessagesGoInBlocks → (scenes : List Scene) → all_may scenes new_play ≡ true
+    → Stands plans (KeepLaws plans) (played scenes new_play) (moves_after scenes [])
+stands-after blocks scenes may =
+    plays-on blocks (KeepLaws plans) keeps-laws scenes new_play [] may (record { moves_are = stands-new; laws = tt })
 
--- ---- the run in parts: all between two notes
-
-abbrev pub first_start : List Scene
-first_start = One Equipment 0 (Started [] 1) ∷ []
-
-abbrev pub storing_first : Happening
-storing_first = Storing 0 (report (65 ∷ []))
-
-abbrev pub storing_second : Happening
-storing_second = Storing 1 (report (66 ∷ []))
-
-abbrev pub second_start : List Scene
-second_start = One Equipment 1 (Started found_both 5) ∷ One Equipment 2 (does (DrewNumber 5)) ∷ []
-
-abbrev pub exchange : List Scene
-exchange =
-    One Equipment 2 (does (SentMessage first_report))
-    ∷ Block Equipment 2 first_report 0 1
-    ∷ transfer Equipment 3 first_report 1
-    ++ One Host 5 (does (ReceivedMessage first_report))
-    ∷ One Host 5 (does (SentMessage (reply 5)))
-    ∷ Takes Equipment 6 (ack ∷ [])
-    ∷ Block Host 7 (reply 5) 0 1
-    ∷ transfer Host 8 (reply 5) 1
-    ++ One Equipment 10 (does (ReceivedMessage (reply 5)))
-    ∷ []
-
-abbrev pub told : ℕ → Happening → List Move → List Move
-told moment what before = record { side = Equipment; moment = moment; kind = says what } ∷ before
-
-abbrev pub tells : Happening → Play → Play
-tells what play = move_played plans Equipment (says what) play
-
-abbrev pub started : Play
-started = played first_start new_play
-
-abbrev pub cut : Play
-cut = tells Power (tells storing_second (tells (Stored 0) (tells storing_first started)))
-
-abbrev pub tried_play : Play
-tried_play = tells (Try 0 5) (played second_start cut)
-
-abbrev pub confirmed_play : Play
-confirmed_play = played exchange tried_play
-
-abbrev pub cut_moves : List Move
-cut_moves =
-    told 1 Power
-    (told 0 storing_second (told 0 (Stored 0) (told 0 storing_first (moves_after first_start []))))
-
-abbrev pub tried_moves : List Move
-tried_moves = told 2 (Try 0 5) (moves_after second_start cut_moves)
-
-first-may : all_may first_start new_play ≡ true
+unload-may : all_may unload new_play ≡ true
 unfolding block_in is_frame sum_cause
-first-may = refl
-
-second-may : all_may second_start cut ≡ true
-unfolding block_in is_frame sum_cause
-second-may = refl
-
-exchange-may : all_may exchange tried_play ≡ true
-unfolding block_in is_frame sum_cause
-exchange-may = refl
-
-cut-stands : MessagesGoInBlocks → Stands plans (KeepLaws plans) cut cut_moves
-cut-stands blocks =
-    says-on 1 Power (tells storing_second (tells (Stored 0) (tells storing_first started)))
-    (told 0 storing_second (told 0 (Stored 0) (told 0 storing_first (moves_after first_start [])))) refl tt tt
-    (says-on 0 storing_second (tells (Stored 0) (tells storing_first started))
-    (told 0 (Stored 0) (told 0 storing_first (moves_after first_start []))) refl tt tt
-    (says-on 0 (Stored 0) (tells storing_first started) (told 0 storing_first (moves_after first_start [])) refl tt tt
-    (says-on 0 storing_first started (moves_after first_start []) refl tt tt
-    (plays-on blocks (KeepLaws plans) keeps-laws first_start new_play [] first-may
-    (record { moves_are = stands-new; laws = tt })))))
-
-unload-stands : MessagesGoInBlocks
-    → Stands plans (KeepLaws plans) (tells (Gone 0) (tells (Leaving 0 cause.Confirmed) confirmed_play)) unload_moves
-unfolding block_in is_frame sum_cause
-unload-stands blocks =
-    says-on 10 (Gone 0) (tells (Leaving 0 cause.Confirmed) confirmed_play)
-    (told 10 (Leaving 0 cause.Confirmed) (moves_after exchange tried_moves)) refl tt tt
-    (says-on 10 (Leaving 0 cause.Confirmed) confirmed_play (moves_after exchange tried_moves) refl tt tt
-    (plays-on blocks (KeepLaws plans) keeps-laws exchange tried_play tried_moves exchange-may
-    (says-on 2 (Try 0 5) (played second_start cut) (moves_after second_start cut_moves) refl tt tt
-    (plays-on blocks (KeepLaws plans) keeps-laws second_start cut cut_moves second-may (cut-stands blocks)))))
+unload-may = refl
 
 -- ---- tries, by scenes
 
-abbrev pub SceneTries : Scene → List Move → Type 0
-SceneTries (One side moment kind) before = MayTryAt side plans before kind
-SceneTries (Block side moment message place number) before =
-    MayTryAt side plans before (Did (Gives place number (block_of (plan_at side plans) message number) moment))
-SceneTries (Takes side moment bytes) before = Unit {0}
+abbrev tells_try : Change → Bool
+tells_try (Change.Tries number system) = true
+tells_try _ = false
 
-abbrev pub AllTries : List Scene → List Move → Type 0
-AllTries [] before = Unit {0}
-AllTries (scene ∷ scenes) before = SceneTries scene before × AllTries scenes (scene_after scene before)
+-- the law of tries asks something of a try, and of a block that is given
+abbrev pub asks_try : Side → Kind → Bool
+asks_try Host kind = false
+asks_try Equipment (Did (Gives place number block now)) = true
+asks_try Equipment (Did (Says what)) = tells_try (change_of what)
+asks_try Equipment (Did (Does own)) = false
+asks_try Equipment (Did (Calls call)) = false
+asks_try Equipment (Started note base) = false
+asks_try Equipment Lost = false
+asks_try Equipment (Changed place byte) = false
+asks_try Equipment (Added byte) = false
 
-takes-keep : (side : Side) (moment : ℕ) (bytes : List ℕ) (before : List Move) → KeepsTries plans before
-    → KeepsTries plans (takes_after side moment bytes before)
-takes-keep side moment [] before keeps = keeps
-takes-keep side moment (byte ∷ bytes) before keeps =
-    takes-keep side moment bytes
-    (record { side = side; moment = moment; kind = Did (Calls (Take byte moment)) } ∷ before) (no-try side, keeps)
-  where
-    no-try : (side : Side) → MayTryAt side plans before (Did (Calls (Take byte moment)))
-    no-try Equipment = tt
-    no-try Host = tt
+abbrev pub TryAt : Side → List Move → Kind → Type 0
+TryAt side before kind = MayTryAt side plans before kind
 
-scene-keeps : (scene : Scene) (before : List Move) → SceneTries scene before → KeepsTries plans before
-    → KeepsTries plans (scene_after scene before)
-scene-keeps (One side moment kind) before may keeps = (may, keeps)
-scene-keeps (Block side moment message place number) before may keeps = (may, keeps)
-scene-keeps (Takes side moment bytes) before may keeps = takes-keep side moment bytes before keeps
+says-untried : (own : List Own) (tries : List ℕ) (change : Change) → tells_try change ≡ false
+    → MaySayTried own tries change
+says-untried own tries (Change.Tries number system) is = cc
+says-untried own tries change is = tt
 
-scenes-keep : (scenes : List Scene) (before : List Move) → AllTries scenes before → KeepsTries plans before
-    → KeepsTries plans (moves_after scenes before)
-scenes-keep [] before may keeps = keeps
-scenes-keep (scene ∷ scenes) before may keeps =
-    scenes-keep scenes (scene_after scene before) may.1 (scene-keeps scene before may.0 keeps)
+pub unasked-try : (side : Side) (before : List Move) (kind : Kind) → asks_try side kind ≡ false → TryAt side before kind
+unasked-try Host before kind is = tt
+unasked-try Equipment before (Did (Gives place number block now)) is = cc
+unasked-try Equipment before (Did (Says what)) is =
+    says-untried (own_of (plan_at Equipment plans) (run_at Equipment plans before).doings)
+    (tries_in (run_at Equipment plans before).doings) (change_of what) is
+unasked-try Equipment before (Did (Does own)) is = tt
+unasked-try Equipment before (Did (Calls call)) is = tt
+unasked-try Equipment before (Started note base) is = tt
+unasked-try Equipment before Lost is = tt
+unasked-try Equipment before (Changed place byte) is = tt
+unasked-try Equipment before (Added byte) is = tt
+
+pub no-call-try : (side : Side) (call : LineCall) → asks_try side (Did (Calls call)) ≡ false
+no-call-try Equipment call = refl
+no-call-try Host call = refl
+
+tries-kept : (moves : List Move) → Kept TryAt asks_try unasked-try no-call-try moves → KeepsTries plans moves
+tries-kept [] kept = tt
+tries-kept (move ∷ before) kept = (kept.0, tries-kept before kept.1)
+
+pub tries-after : (scenes : List Scene) → AllMay TryAt asks_try unasked-try no-call-try scenes []
+    → KeepsTries plans (moves_after scenes [])
+tries-after scenes may =
+    tries-kept (moves_after scenes []) (kept-after TryAt asks_try unasked-try no-call-try scenes [] may tt)
 
 newest : (message : Message) → Has (5 ∷ []) message.system → IsNewest (5 ∷ []) message.system
 newest message (inl same) = sym same
 newest message (inr is) = absurd is
 
-all-tries : AllTries unload []
+all-tries : AllMay TryAt asks_try unasked-try no-call-try unload []
 all-tries = (
-  tt,
-  (
-    tt,
-    (
-      tt,
-      (
-        tt,
-        (
-          tt,
-          (
-            tt,
-            (
-              tt,
-              (
-                record { drawn = inl refl; new = λ message none. absurd none; untried = λ none. none },
-                (
-                  tt,
-                  (
-                    λ
-                        message at primary has. newest message has,
-                    (
-                      tt,
-                      (
-                        tt,
-                        (
-                          tt,
-                          (
-                            tt,
-                            (
-                              tt,
-                              (
-                                tt,
-                                (
-                                  tt,
-                                  (
-                                    tt,
-                                    (
-                                      tt,
-                                      (
-                                        tt,
-                                        (
-                                          tt,
-                                          (
-                                            tt,
-                                            (tt, tt),
-                                          ),
-                                        ),
-                                      ),
-                                    ),
-                                  ),
-                                ),
-                              ),
-                            ),
-                          ),
-                        ),
-                      ),
-                    ),
-                  ),
-                ),
-              ),
-            ),
-          ),
-        ),
-      ),
-    ),
-  ),
+  record { drawn = inl refl; new = λ message none. absurd none; untried = λ none. none },
+  (λ message at primary has. newest message has, tt),
 )
 
 -- ---- notes
@@ -277,14 +128,17 @@ keeps-spool = (
     record {
       rest = record { none_stored = refl; none_leaves = refl };
       first = refl;
-      cause = record {
-        tried = record { number = 0; system = 5 };
-        is = refl;
-        reply = reply 5;
-        has = inl refl;
-        secondary = refl;
-        system = refl;
-      };
+      cause = (
+        record {
+          tried = record { number = 0; system = 5 };
+          is = refl;
+          reply = reply 5;
+          has = inl refl;
+          secondary = refl;
+          system = refl;
+        },
+        refl,
+      );
     },
     (
       tt,
@@ -320,15 +174,11 @@ keeps-spool = (
 pub unloads-after-loss : MessagesGoInBlocks → UnloadsAfterLoss
 unfolding block_in is_frame sum_cause
 unloads-after-loss blocks =
-    let stands = unload-stands blocks in
+    let stands = stands-after blocks unload unload-may in
     record {
       fits = search rules;
       no_slip = stands.moves_are.no_slip;
-      laws = record {
-        ends = stands.laws;
-        notes = keeps-spool;
-        tries = scenes-keep unload [] all-tries tt;
-      };
+      laws = record { ends = stands.laws; notes = keeps-spool; tries = tries-after unload all-tries };
       taken = refl;
       stands = refl;
     }
@@ -376,4 +226,6 @@ are-not-kept = record {
   stores_over = λ policy kept. some-none first_put kept.1.1.1.0.quiet.none_stored;
   stores_under = λ policy kept. under-itself 0 (kept.1.1.0.above first_put (inl refl));
   goes_alone = λ policy kept. none-some kept.1.0.cause kept.1.0.is;
+  names_none = λ policy kept. kept.0.cause;
+  names_one = λ policy kept. some-none (report (66 ∷ [])) kept.0.cause.1;
 }

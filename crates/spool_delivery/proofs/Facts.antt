@@ -27,7 +27,7 @@ IsTakenFor cause.Overwritten account = Unit {0}
 
 -- and with the system bytes of a try goes out what was put
 abbrev pub IsBacked : Change → Account → Type 0
-IsBacked (Leaves number why) account = IsTakenFor why account
+IsBacked (Leaves number why room_for) account = IsTakenFor why account
 IsBacked (Sends message) account = CarriesPut account message
 IsBacked _ account = Unit {0}
 

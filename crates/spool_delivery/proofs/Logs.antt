@@ -21,6 +21,8 @@ use Rattle.message_flow.specs.declared.message.Message.{Message}
 use Rattle.message_flow.specs.Blocks.{header_of}
 use Rattle.message_flow.specs.Message.{is_primary}
 use Rattle.trace_log.specs.Delivered.{Delivered, WasSent}
+use Rattle.message_end.specs.Starts.{IsStartOf}
+use Rattle.message_end.specs.Starts.IsStartOf.{of_equipment, of_host, of_journal}
 use Rattle.trace_log.specs.Log.{Entry, Happening}
 use Rattle.trace_log.specs.Log.Entry.{Noted}
 use Rattle.spool_law.specs.Shelf.{received_since}
@@ -129,6 +131,13 @@ plain-sends : (moment : ℕ) (what : Happening) (before : List Message) → IsPl
 plain-sends moment (Happening.Sent message) before plain = absurd plain
 plain-sends moment what before plain = refl
 
+start-sends :
+    (moment : ℕ) (side : Side) (note : Happening) (base : ℕ) (before : List Message) → IsStartOf side note base
+    → sent_behind (Noted moment Equipment note) before ≡ before
+start-sends moment _ _ _ before (of_equipment found base) = refl
+start-sends moment _ _ _ before (of_host base) = refl
+start-sends moment _ _ _ before (of_journal found base) = refl
+
 sent-after : (plan : EndPlan) (arrived : List Arrival) (way : List Character) (moment : ℕ) (kind : Kind)
     (log : List Entry)
     (run : Run)
@@ -149,7 +158,8 @@ sent-after plan arrived way moment (Did (Calls call)) log run may is =
     (sym (call-same (receiver_of plan) call (line_of plan run.doings) (own_of plan run.doings)).sent)
 sent-after plan arrived way moment (Did (Says what)) log run may is =
     plain-sends moment what (equipment_sent log) may.0.1 ∙ is
-sent-after plan arrived way moment (Started found base) log run may is = is
+sent-after plan arrived way moment (Started note base) log run may is =
+    start-sends moment plan.side note base (equipment_sent log) may.0 ∙ is
 sent-after plan arrived way moment Lost log run may is = is
 sent-after plan arrived way moment (Changed place byte) log run may is = is
 sent-after plan arrived way moment (Added byte) log run may is = is
@@ -231,7 +241,7 @@ received-after plan arrived way moment (Did (Calls call)) log run may earlier m 
     (call-same (receiver_of plan) call (line_of plan run.doings) (own_of plan run.doings)).received has)
 received-after plan arrived way moment (Did (Says what)) log run may earlier m has =
     taken-more (Noted moment Host what) (host_received log) m (earlier m has)
-received-after plan arrived way moment (Started found base) log run may earlier m is = absurd is
+received-after plan arrived way moment (Started note base) log run may earlier m is = absurd is
 received-after plan arrived way moment Lost log run may earlier m has = earlier m has
 received-after plan arrived way moment (Changed place byte) log run may earlier m has = earlier m has
 received-after plan arrived way moment (Added byte) log run may earlier m has = earlier m has
@@ -284,6 +294,13 @@ plain-replies : (moment : ℕ) (what : Happening) (before : List Message) → Is
 plain-replies moment (Happening.Sent message) before plain = absurd plain
 plain-replies moment what before plain = refl
 
+start-replies :
+    (moment : ℕ) (side : Side) (note : Happening) (base : ℕ) (before : List Message) → IsStartOf side note base
+    → replied_behind (Noted moment Host note) before ≡ before
+start-replies moment _ _ _ before (of_equipment found base) = refl
+start-replies moment _ _ _ before (of_host base) = refl
+start-replies moment _ _ _ before (of_journal found base) = refl
+
 -- what it has received in this start, and what it has sent
 replied-after : (plan : EndPlan) → plan.side ≡ Host → (arrived : List Arrival) (way : List Character) (moment : ℕ)
     (kind : Kind) (log : List Entry) (run : Run)
@@ -325,8 +342,10 @@ replied-after plan host arrived way moment (Did (Calls call)) log run may receiv
     later has secondary
 replied-after plan host arrived way moment (Did (Says what)) log run may received are m has secondary later =
     later (subst (λ (ms : List Message). Has ms m) (plain-replies moment what (host_sent log) may.0.1) has) secondary
-replied-after plan host arrived way moment (Started found base) log run may received are m has secondary later =
-    later has secondary
+replied-after plan host arrived way moment (Started note base) log run may received are m has secondary later =
+    later
+    (subst (λ (ms : List Message). Has ms m) (start-replies moment plan.side note base (host_sent log) may.0) has)
+    secondary
 replied-after plan host arrived way moment Lost log run may received are m has secondary later = later has secondary
 replied-after plan host arrived way moment (Changed place byte) log run may received are m has secondary later =
     later has secondary

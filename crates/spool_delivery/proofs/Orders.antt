@@ -60,7 +60,7 @@ given-place place (giving ∷ before) g is = go (place == length before) refl (g
     go true equal later found = let at : place ≡ length before = grind (arith, nat_tests) in omega (arith, at)
     go false differs later found = let under = later found in omega (arith, under)
 
-given-has : (place : ℕ) (given : List Giving) (g : Giving) → giving_at place given ≡ Some g → Has given g
+pub given-has : (place : ℕ) (given : List Giving) (g : Giving) → giving_at place given ≡ Some g → Has given g
 given-has place [] g is = cc
 given-has place (giving ∷ before) g is = go (place == length before) (given-has place before g) is
   where

@@ -189,8 +189,8 @@ numbered-after plan arrived way (Did (Calls call)) run may is = carried
         (λ (g : List Giving). AreNumbered run.base (drawn_in own) (sent_in own) g run.sent_before run.given_before)
         (sym same.given) is))
 numbered-after plan arrived way (Did (Says what)) run may is = is
-numbered-after plan arrived way (Started found base) run may is =
-    numbered-started plan run run.base base is may.least may.above
+numbered-after plan arrived way (Started note base) run may is =
+    numbered-started plan run run.base base is may.1.least may.1.above
 numbered-after plan arrived way Lost run may is = is
 numbered-after plan arrived way (Changed place byte) run may is = is
 numbered-after plan arrived way (Added byte) run may is = is

@@ -173,7 +173,7 @@ tied-changed policy notes (HasStored number) count account tied sound may = reco
   storing = refl;
   leaving = tied.leaving;
 }
-tied-changed policy notes (Leaves number why) count account tied sound may =
+tied-changed policy notes (Leaves number why room_for) count account tied sound may =
     record { stands = tied.stands; storing = tied.storing; leaving = refl }
 tied-changed policy notes (HasGone number) count account tied sound may = record {
   stands =
@@ -227,14 +227,14 @@ sound-changed policy notes (Stores number message) count next more a tied sound 
 sound-changed policy notes (HasStored number) count next more a tied sound may confirmed =
     sound-stored count next more a.stores a.storing a.puts a.standing a.leaving a.removed a.tries a.taken
     (storing-some (shelf_of notes).storing a.storing (number, may.message) may.is tied.storing) sound
-sound-changed policy notes (Leaves number cause.Confirmed) count next more a tied sound may confirmed =
+sound-changed policy notes (Leaves number cause.Confirmed room_for) count next more a tied sound may confirmed =
     sound-leaves count next more a.stores a.storing a.puts a.standing a.leaving a.removed a.tries a.taken
     cause.Confirmed (at-rest (shelf_of notes).storing a.storing may.rest.none_stored tied.storing) (λ same. confirmed)
     sound
-sound-changed policy notes (Leaves number cause.Purged) count next more a tied sound may confirmed =
+sound-changed policy notes (Leaves number cause.Purged room_for) count next more a tied sound may confirmed =
     sound-leaves count next more a.stores a.storing a.puts a.standing a.leaving a.removed a.tries a.taken
     cause.Purged (at-rest (shelf_of notes).storing a.storing may.rest.none_stored tied.storing) (λ same. cc) sound
-sound-changed policy notes (Leaves number cause.Overwritten) count next more a tied sound may confirmed =
+sound-changed policy notes (Leaves number cause.Overwritten room_for) count next more a tied sound may confirmed =
     sound-leaves count next more a.stores a.storing a.puts a.standing a.leaving a.removed a.tries a.taken
     cause.Overwritten (at-rest (shelf_of notes).storing a.storing may.rest.none_stored tied.storing) (λ same. cc) sound
 sound-changed policy notes (HasGone number) count next more a tied sound may confirmed =

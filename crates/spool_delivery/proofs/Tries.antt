@@ -109,7 +109,7 @@ pub tries-go : (policy : Policy) (notes : List Happening) (change : Change) (pla
 tries-go policy notes (Finds found) place account sent tied may fresh = inl refl
 tries-go policy notes (Stores number message) place account sent tied may fresh = inl refl
 tries-go policy notes (HasStored number) place account sent tied may fresh = inl refl
-tries-go policy notes (Leaves number why) place account sent tied may fresh = inl refl
+tries-go policy notes (Leaves number why room_for) place account sent tied may fresh = inl refl
 tries-go policy notes (HasGone number) place account sent tied may fresh = inl refl
 tries-go policy notes (Tries number system) place account sent tied may fresh =
     let it = first-put (shelf_of notes).stands account.standing number tied.stands may in
@@ -128,7 +128,7 @@ pub taken-stays : (change : Change) (place : ℕ) (account : Account)
 taken-stays (Finds found) place account = refl
 taken-stays (Stores number message) place account = refl
 taken-stays (HasStored number) place account = refl
-taken-stays (Leaves number why) place account = refl
+taken-stays (Leaves number why room_for) place account = refl
 taken-stays (HasGone number) place account = refl
 taken-stays (Tries number system) place account = refl
 taken-stays (Sends message) place account = refl
@@ -161,7 +161,7 @@ tries-are policy notes (HasStored number) count a tied sound may falls first = (
           first = ap (λ (ss : List Put). ss ++ option_to_list a.storing) it.first;
           named = it.named;
         }
-tries-are policy notes (Leaves number why) count a tied sound may falls first = (falls, first)
+tries-are policy notes (Leaves number why room_for) count a tied sound may falls first = (falls, first)
 tries-are policy notes (HasGone number) count a tied sound may falls first =
     (falls, none-tried (account_changed count (HasGone number) a).standing a.tries)
 tries-are policy notes (Tries number system) count a tied sound may falls first =
@@ -231,7 +231,7 @@ pub of-start : (policy : Policy) (notes : List Happening) (change : Change) (pla
 of-start policy notes (Finds found) place account base drawn now no_start tied may fresh is = absurd no_start
 of-start policy notes (Stores number message) place account base drawn now no_start tied may fresh is = is
 of-start policy notes (HasStored number) place account base drawn now no_start tied may fresh is = is
-of-start policy notes (Leaves number why) place account base drawn now no_start tied may fresh is = is
+of-start policy notes (Leaves number why room_for) place account base drawn now no_start tied may fresh is = is
 of-start policy notes (HasGone number) place account base drawn now no_start tied may fresh is = is
 of-start policy notes (Tries number system) place account base drawn now no_start tied may fresh is = record {
   older = is.older;

@@ -3,10 +3,13 @@ use Rattle.std.specs.Prelude.{◌≡◌, ◌≢◌, ◌≤◌, ◌⊎◌, ◌==�
 use Rattle.std.proofs.Common.{sym, ap, ◌∙◌, subst, arith, inl, inr}
 use Rattle.std.proofs.lemmas.Bool.Decides.{nat_tests}
 use Rattle.std.proofs.lemmas.List.Elements.{All-cons, All-nil}
+use Rattle.gl_base.specs.declared.side.Side.{Side}
 use Rattle.gl_base.specs.declared.side.Side.TheVariants.{Equipment, Host}
 use Rattle.delivery.specs.Order.{giving_at}
 use Rattle.message_end.specs.Doings.{IsPlain}
 use Rattle.message_end.specs.Own.{Giving, Has, sent_at}
+use Rattle.message_end.specs.Starts.{IsStartOf}
+use Rattle.message_end.specs.Starts.IsStartOf.{of_equipment, of_host, of_journal}
 use Rattle.message_flow.specs.declared.message.Message.{Message}
 use Rattle.message_flow.specs.Message.{is_primary}
 use Rattle.trace_log.specs.declared.names.Cause.TheVariants as cause
@@ -59,23 +62,24 @@ backed : (policy : Policy) (log : List Entry) (base : ℕ) (drawn now : List ℕ
     → Delivered log → AreReplied log → ((n : ℕ) → Has drawn n → base ≤ n) → SendsDrawn change drawn
     → IsWorld policy log base drawn now sent given places → MayChange policy (equipment_notes log) change
     → IsBacked change (account_of log)
-backed policy log base drawn now sent given places (Leaves number cause.Confirmed) delivered replied least for_it is
-    may =
+backed policy log base drawn now sent given places (Leaves number cause.Confirmed room_for) delivered replied
+    least for_it is may =
     λ put rest first.
     subst (λ (p : Put). Has (account_of log).taken p) (same-first it.put put it.rest rest (sym it.first ∙ first))
     (is.host_taken reply.asked reply.has reply.primary it.put
-    (ap (λ (s : ℕ). tried_with s (account_of log).tries) (reply.system ∙ may.cause.system) ∙ it.named))
+    (ap (λ (s : ℕ). tried_with s (account_of log).tries) (reply.system ∙ may.cause.0.system) ∙ it.named))
   where
-    it : IsFirstTried may.cause.tried (account_of log).standing (account_of log).tries
-    it = is.first may.cause.tried may.cause.is
+    it : IsFirstTried may.cause.0.tried (account_of log).standing (account_of log).tries
+    it = is.first may.cause.0.tried may.cause.0.is
 
-    reply : IsReplied log may.cause.reply
+    reply : IsReplied log may.cause.0.reply
     reply =
-        replied may.cause.reply (received-was-sent log delivered may.cause.reply may.cause.has) may.cause.secondary
-backed policy log base drawn now sent given places (Leaves number cause.Purged) delivered replied least for_it is may =
+        replied may.cause.0.reply (received-was-sent log delivered may.cause.0.reply may.cause.0.has) may.cause.0.secondary
+backed policy log base drawn now sent given places (Leaves number cause.Purged room_for) delivered replied least
+    for_it is may =
     tt
-backed policy log base drawn now sent given places (Leaves number cause.Overwritten) delivered replied least for_it is
-    may =
+backed policy log base drawn now sent given places (Leaves number cause.Overwritten room_for) delivered replied
+    least for_it is may =
     tt
 backed policy log base drawn now sent given places (Finds found) delivered replied least for_it is may = tt
 backed policy log base drawn now sent given places (Stores number message) delivered replied least for_it is may = tt
@@ -119,7 +123,7 @@ new-for (Tries number system) log sent same fresh untried =
 new-for (Finds found) log sent same fresh untried = tt
 new-for (Stores number message) log sent same fresh untried = tt
 new-for (HasStored number) log sent same fresh untried = tt
-new-for (Leaves number why) log sent same fresh untried = tt
+new-for (Leaves number why room_for) log sent same fresh untried = tt
 new-for (HasGone number) log sent same fresh untried = tt
 new-for (Sends message) log sent same fresh untried = tt
 new-for (Receives message) log sent same fresh untried = tt
@@ -324,6 +328,11 @@ NotReceived _ = Unit {0}
 pub plain-not : (what : Happening) → IsPlain what → NotReceived what
 plain-not (Happening.Received message) plain = absurd plain
 plain-not what plain = tt
+
+pub start-not : (side : Side) (note : Happening) (base : ℕ) → IsStartOf side note base → NotReceived note
+start-not _ _ _ (of_equipment found base) = tt
+start-not _ _ _ (of_host base) = tt
+start-not _ _ _ (of_journal found base) = tt
 
 pub plain-no-start : (what : Happening) → IsPlain what → IsNoStart (change_of what)
 plain-no-start (Happening.EquipmentStarted found base) plain = absurd plain

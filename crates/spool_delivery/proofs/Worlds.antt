@@ -20,7 +20,7 @@ use Rattle.message_flow.specs.Message.{is_primary}
 use Rattle.trace_log.specs.Delivered.{Delivered}
 use Rattle.trace_log.specs.Log.{Entry, Happening}
 use Rattle.trace_log.specs.Log.Entry.{Noted}
-use Rattle.spool_law.specs.Shelf.{Change, KeepsSpool, Policy, change_of, shelf_of}
+use Rattle.spool_law.specs.Shelf.{Change, KeepsSpool, MayChange, Policy, change_of, shelf_of}
 use Rattle.spool_law.specs.Shelf.Change.{Finds, HasGone, HasStored, Leaves, Other, Receives, Sends, Stores, Tries}
 use Rattle.spool_law.specs.Tries.{KeepsTries, MayMoveTried, MaySayTried, MayTryAt, tried_behind, tries_in}
 use Rattle.spool_delivery.specs.Account.{account_of}
@@ -28,11 +28,12 @@ use Rattle.spool_delivery.specs.Claims.{equipment_notes}
 use Rattle.spool_delivery.proofs.Facts.{AreFacts}
 use Rattle.spool_delivery.proofs.Tied.{sound-at}
 use Rattle.message_end.proofs.Members.{has-either, has-mapped}
+use Rattle.message_end.proofs.Starts.{IsEquipmentStart, equipment-start}
 use Rattle.spool_delivery.proofs.Logs.{AreReplied, equipment_sent, replied-are, sent-are}
 use Rattle.spool_delivery.proofs.Orders.{AllPlaced, of-latest}
 use Rattle.spool_delivery.proofs.Runs.{AreSame, IsNumbered, call-same, numbered-after}
 use Rattle.spool_delivery.proofs.Tries.{AllFresh, AreOfStart, DrawnFor, IsUntried, of-new-start, of-start, untried-in}
-use Rattle.spool_delivery.proofs.WorldSteps.{IsWorld, drawn-step, give-step, note-step, plain-no-start, plain-not, plain-sends, quiet-step, sent-step, take-step}
+use Rattle.spool_delivery.proofs.WorldSteps.{IsWorld, drawn-step, give-step, note-step, plain-no-start, plain-not, plain-sends, quiet-step, sent-step, start-not, take-step}
 
 -- ---- a move of the equipment
 
@@ -41,7 +42,7 @@ IsWorldOf policy log plan run places =
     IsWorld policy log run.base (drawn_in (own_of plan run.doings)) (tries_in run.doings) (all_sent plan run)
     (all_given plan run) places
 
-all-placed : (plan : EndPlan) (run : Run) → IsNumbered plan run → AllPlaced (all_given plan run) (all_sent plan run)
+pub all-placed : (plan : EndPlan) (run : Run) → IsNumbered plan run → AllPlaced (all_given plan run) (all_sent plan run)
 all-placed plan run is g has = go (has-either (map (behind (length run.sent_before)) given) run.given_before g has)
   where
     given : List Giving
@@ -77,7 +78,7 @@ fresh-for plan run (Tries number system) is may = (
 fresh-for plan run (Finds found) is may = (tt, tt)
 fresh-for plan run (Stores number message) is may = (tt, tt)
 fresh-for plan run (HasStored number) is may = (tt, tt)
-fresh-for plan run (Leaves number why) is may = (tt, tt)
+fresh-for plan run (Leaves number why room_for) is may = (tt, tt)
 fresh-for plan run (HasGone number) is may = (tt, tt)
 fresh-for plan run (Sends message) is may = (tt, tt)
 fresh-for plan run (Receives message) is may = (tt, tt)
@@ -94,7 +95,7 @@ untried-for plan run (Tries number system) log is may starts =
 untried-for plan run (Finds found) log is may starts = tt
 untried-for plan run (Stores number message) log is may starts = tt
 untried-for plan run (HasStored number) log is may starts = tt
-untried-for plan run (Leaves number why) log is may starts = tt
+untried-for plan run (Leaves number why room_for) log is may starts = tt
 untried-for plan run (HasGone number) log is may starts = tt
 untried-for plan run (Sends message) log is may starts = tt
 untried-for plan run (Receives message) log is may starts = tt
@@ -202,20 +203,33 @@ equipment-step policy plan side arrived way moment (Did (Says what)) log run pla
 
     fresh : AllFresh (change_of what) (all_sent plan run) × DrawnFor (change_of what) drawn
     fresh = fresh-for plan run (change_of what) numbered tried
-equipment-step policy plan side arrived way moment (Started found base) log run places may tried spool delivered replied
+equipment-step policy plan side arrived way moment (Started note base) log run places may tried spool delivered replied
     sent_are numbered is =
-    note-step policy log moment (Happening.EquipmentStarted found base) run.base drawn now (all_sent plan run)
-    (all_given plan run) places base [] [] delivered replied sent_are numbered.least tt spool.0 tt tt
-    (of-new-start run.base base drawn now (shelf_of (equipment_notes log)).told
-    (account_of log).tries may.least may.above
-    is.starts)
-    is
+    subst
+    (λ (what : Happening).
+    MayChange policy (equipment_notes log) (change_of what)
+    → IsWorld policy (Noted moment Equipment what ∷ log) base [] [] (all_sent plan run) (all_given plan run) places)
+    (sym starts.is) started spool.0
   where
+    starts : IsEquipmentStart note base
+    starts = equipment-start plan.side note base may.0 side
+
     drawn : List ℕ
     drawn = drawn_in (own_of plan run.doings)
 
     now : List ℕ
     now = tries_in run.doings
+
+    started : MayChange policy (equipment_notes log) (Finds starts.found)
+        → IsWorld policy (Noted moment Equipment (Happening.EquipmentStarted starts.found base) ∷ log) base [] []
+        (all_sent plan run) (all_given plan run) places
+    started finds =
+        note-step policy log moment (Happening.EquipmentStarted starts.found base) run.base drawn now
+        (all_sent plan run) (all_given plan run) places base [] [] delivered replied sent_are numbered.least tt finds tt tt
+        (of-new-start run.base base drawn now (shelf_of (equipment_notes log)).told
+        (account_of log).tries may.1.least may.1.above
+        is.starts)
+        is
 equipment-step policy plan side arrived way moment Lost log run places may tried spool delivered replied sent_are
     numbered
     is = is
@@ -260,44 +274,49 @@ host-step policy plan there arrived way moment (Did (Calls call)) log run theirs
 host-step policy plan there arrived way moment (Did (Says what)) log run theirs may order is =
     quiet-step policy log moment what theirs.base (drawn_in (own_of there theirs.doings)) (tries_in theirs.doings)
     (all_sent there theirs) (all_given there theirs) (all_places run) (plain-not what may.0.1) is
-host-step policy plan there arrived way moment (Started found base) log run theirs may order is =
-    quiet-step policy log moment Happening.HostStarted theirs.base (drawn_in (own_of there theirs.doings)) (tries_in
-    theirs.doings) (all_sent there theirs) (all_given there theirs) (all_places run) tt is
+host-step policy plan there arrived way moment (Started note base) log run theirs may order is =
+    quiet-step policy log moment note theirs.base (drawn_in (own_of there theirs.doings)) (tries_in theirs.doings)
+    (all_sent there theirs) (all_given there theirs) (all_places run) (start-not plan.side note base may.0) is
 host-step policy plan there arrived way moment Lost log run theirs may order is = is
 host-step policy plan there arrived way moment (Changed place byte) log run theirs may order is = is
 host-step policy plan there arrived way moment (Added byte) log run theirs may order is = is
 
 -- ---- all moves
 
-delivered-before : (moment : ℕ) (side : Side) (noted : Option Happening) (log : List Entry)
+pub delivered-before : (moment : ℕ) (side : Side) (noted : Option Happening) (log : List Entry)
     → Delivered (with_note moment side noted log) → Delivered log
 delivered-before moment side None log is = is
 delivered-before moment side (Some what) log is = is.1
 
-spool-before : (policy : Policy) (moment : ℕ) (side : Side) (noted : Option Happening) (log : List Entry)
+pub spool-before : (policy : Policy) (moment : ℕ) (side : Side) (noted : Option Happening) (log : List Entry)
     → KeepsSpool policy (equipment_notes (with_note moment side noted log)) → KeepsSpool policy (equipment_notes log)
 spool-before policy moment side None log is = is
 spool-before policy moment Equipment (Some what) log is = is.1
 spool-before policy moment Host (Some what) log is = is
 
-numbered-are : (plans : LinePlans) (moves : List Move) → KeepLaws plans moves
-    → IsNumbered (plan_at Equipment plans) (run_at Equipment plans moves)
-numbered-are plans [] laws = record {
+-- of either end
+pub numbered-are : (end : Side) (plans : LinePlans) (moves : List Move) → KeepLaws plans moves
+    → IsNumbered (plan_at end plans) (run_at end plans moves)
+numbered-are end plans [] laws = record {
   least = λ n none. absurd none;
   drawn_are = λ m none. absurd none;
   old = λ m none. absurd none;
   given_now = λ g none. absurd none;
   given_old = λ g none. absurd none;
 }
-numbered-are plans (move ∷ before) laws = go (numbered-are plans before laws.1) move.side laws.0
+numbered-are end plans (move ∷ before) laws = go end (numbered-are end plans before laws.1) move.side laws.0
   where
-    go : IsNumbered (plan_at Equipment plans) (run_at Equipment plans before) → (side : Side)
+    go : (end : Side) → IsNumbered (plan_at end plans) (run_at end plans before) → (side : Side)
         → MayMove (plan_at side plans) (seen_at side plans before).there.under_way (run_at side plans before) move.kind
-        → IsNumbered (plan_at Equipment plans) (run_at Equipment plans (record move { side = side } ∷ before))
-    go earlier Equipment may =
+        → IsNumbered (plan_at end plans) (run_at end plans (record move { side = side } ∷ before))
+    go Equipment earlier Equipment may =
         numbered-after (plan_at Equipment plans) (seen_at Equipment plans before).here.arrived
         (seen_at Equipment plans before).there.under_way move.kind (run_at Equipment plans before) may earlier
-    go earlier Host may = earlier
+    go Equipment earlier Host may = earlier
+    go Host earlier Host may =
+        numbered-after (plan_at Host plans) (seen_at Host plans before).here.arrived
+        (seen_at Host plans before).there.under_way move.kind (run_at Host plans before) may earlier
+    go Host earlier Equipment may = earlier
 
 abbrev pub WorldAt : Policy → LinePlans → List Move → Type 0
 WorldAt policy plans moves =
@@ -327,7 +346,7 @@ new-world policy plans = record {
     never : (g : Giving) → None ≡ Some g → ⊥
     never g is = cc
 
-world-at : (policy : Policy) (plans : LinePlans) (moves : List Move) → KeepLaws plans moves
+pub world-at : (policy : Policy) (plans : LinePlans) (moves : List Move) → KeepLaws plans moves
     → KeepsSpool policy (equipment_notes (log_of moves)) → KeepsTries plans moves → Delivered (log_of moves)
     → AreInOrder plans moves → WorldAt policy plans moves
 world-at policy plans [] laws spool tries delivered order = new-world policy plans
@@ -353,7 +372,8 @@ world-at policy plans (move ∷ before) laws spool tries delivered order =
         equipment-step policy (plan_at Equipment plans) refl (seen_at Equipment plans before).here.arrived
         (seen_at Equipment plans before).there.under_way move.moment move.kind (log_of before)
         (run_at Equipment plans before) (all_places (run_at Host plans before)) may tried spool_so delivered_so
-        (replied-are plans before laws.1) (sent-are plans before laws.1) (numbered-are plans before laws.1) earlier
+        (replied-are plans before laws.1) (sent-are plans before laws.1)
+        (numbered-are Equipment plans before laws.1) earlier
     go earlier Host may spool_so tried order_so =
         host-step policy (plan_at Host plans) (plan_at Equipment plans) (seen_at Host plans before).here.arrived
         (seen_at Host plans before).there.under_way move.moment move.kind (log_of before) (run_at Host plans before)

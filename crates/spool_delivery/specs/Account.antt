@@ -125,7 +125,7 @@ account_changed place (HasStored number) account =
       puts = account.puts ++ option_to_list account.storing;
       standing = account.standing ++ option_to_list account.storing;
     }
-account_changed place (Leaves number why) account = record account { leaving = Some why }
+account_changed place (Leaves number why room_for) account = record account { leaving = Some why }
 account_changed place (HasGone number) account =
     record account {
       standing = staying_puts account.leaving account.standing;

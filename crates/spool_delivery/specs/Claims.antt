@@ -1,5 +1,5 @@
 -- What is claimed of the spool in a log.
-use Rattle.std.specs.Prelude.{◌≡◌, ◌<◌, ℕ, true, false, None, Some, List, [], ◌∷◌, ◌++◌, All, map, option_map}
+use Rattle.std.specs.Prelude.{◌≡◌, ◌<◌, ℕ, true, false, Option, None, Some, List, [], ◌∷◌, ◌++◌, All, map, option_map}
 use Rattle.gl_base.specs.declared.side.Side.{Side}
 use Rattle.gl_base.specs.declared.side.Side.TheVariants.{Equipment, Host}
 use Rattle.message_end.specs.Own.{Has}
@@ -32,14 +32,20 @@ equipment_notes (entry ∷ before) = with_note_of entry (equipment_notes before)
 abbrev pub numbered : Put → ℕ × Spooled
 numbered put = (put.number, put.message)
 
+-- what stands leaves no room for the message that is to be put, and may be overwritten for it
+abbrev pub WantsRoom : Policy → List Entry → Option Spooled → Type 0
+WantsRoom policy before None = ⊥
+WantsRoom policy before (Some message) =
+    policy.overwrites (equipment_notes before) (map numbered (account_of before).standing) message ≡ true
+
 -- a put leaves as confirmed only where the host has taken it (this profile); as purged only where the message that the
--- equipment has received last, in this start, asks for it, and as overwritten only where the spool is full and may
--- overwrite (SEMI E30, spooling)
-abbrev pub HasCause : Policy → List Entry → Put → Cause → Type 0
-HasCause policy before put cause.Confirmed = Has (account_of before).taken put
-HasCause policy before put cause.Purged = IsPurge policy (received_since (equipment_notes before))
-HasCause policy before put cause.Overwritten =
-    policy.overwrites (equipment_notes before) (map numbered (account_of before).standing) ≡ true
+-- equipment has received last, in this start, asks for it, and as overwritten only where the message that is to be put
+-- wants its room (SEMI E30, spooling)
+abbrev pub HasCause : Policy → List Entry → Put → Cause → Option Spooled → Type 0
+HasCause policy before put cause.Confirmed room_for = Has (account_of before).taken put × (room_for ≡ None)
+HasCause policy before put cause.Purged room_for =
+    IsPurge policy (received_since (equipment_notes before)) × (room_for ≡ None)
+HasCause policy before put cause.Overwritten room_for = WantsRoom policy before room_for
 
 -- nothing is being stored, and nothing is leaving
 pub record IsQuiet (account : Account) : Type 0 where
@@ -58,13 +64,15 @@ pub record IsStored (account : Account) (number : ℕ) : Type 0 where
   pub number_is : put.number ≡ number
 
 -- the put that stands first leaves, and has a cause
-pub record LeavesFirst (policy : Policy) (before : List Entry) (number : ℕ) (why : Cause) : Type 0 where
+pub record LeavesFirst
+    (policy : Policy) (before : List Entry) (number : ℕ) (why : Cause) (room_for : Option Spooled)
+    : Type 0 where
   pub quiet : IsQuiet (account_of before)
   pub put : Put
   pub rest : List Put
   pub first : (account_of before).standing ≡ put ∷ rest
   pub number_is : put.number ≡ number
-  pub cause : HasCause policy before put why
+  pub cause : HasCause policy before put why room_for
 
 -- the put that stands first has this number
 pub record IsFirstPut (standing : List Put) (number : ℕ) : Type 0 where
@@ -101,7 +109,7 @@ IsKeptBy policy (Changes (Finds found)) before =
     IsFoundOf (map numbered account.standing) (option_map numbered account.storing) account.leaving found
 IsKeptBy policy (Changes (Stores number message)) before = IsPutBehind (account_of before) number
 IsKeptBy policy (Changes (HasStored number)) before = IsStored (account_of before) number
-IsKeptBy policy (Changes (Leaves number why)) before = LeavesFirst policy before number why
+IsKeptBy policy (Changes (Leaves number why room_for)) before = LeavesFirst policy before number why room_for
 IsKeptBy policy (Changes (HasGone number)) before = IsGone (account_of before) number
 IsKeptBy policy (Changes (Tries number system)) before = TriesFirst before number system
 IsKeptBy policy (Changes (Sends message)) before = CarriesPut (account_of before) message

@@ -1,5 +1,5 @@
 -- Logs that can be followed by hand.
-use Rattle.std.specs.Prelude.{◌≡◌, ◌==◌, ℕ, true, false, List, [], ◌∷◌, ◌++◌, map, reverse}
+use Rattle.std.specs.Prelude.{◌≡◌, ◌==◌, ℕ, true, false, None, Some, List, [], ◌∷◌, ◌++◌, map, reverse}
 use Rattle.delivery.specs.Worked.{Scene, a_plan, does, moves_after, plans, transfer}
 use Rattle.delivery.specs.Worked.Scene.{Block, One, Takes}
 use Rattle.gl_base.specs.declared.side.Side.TheVariants.{Equipment, Host}
@@ -53,7 +53,7 @@ tried number system body =
 abbrev pub confirmed : (number system : ℕ) → List Entry
 confirmed number system =
     at_equipment (Received (reply system))
-    ∷ at_equipment (Leaving number cause.Confirmed)
+    ∷ at_equipment (Leaving number cause.Confirmed None)
     ∷ at_equipment (Gone number)
     ∷ []
 
@@ -111,7 +111,7 @@ abbrev pub purged : List Entry
 purged =
     at_equipment (EquipmentStarted ((1, report (66 ∷ [])) ∷ []) 13)
     ∷ at_equipment Power
-    ∷ at_equipment (Leaving 0 cause.Purged)
+    ∷ at_equipment (Leaving 0 cause.Purged None)
     ∷ at_equipment (Received purge)
     ∷ cut_off
 
@@ -128,7 +128,7 @@ overwritten =
     ∷ put_in 0 (65 ∷ [])
     ++ at_equipment (Try 0 10)
     ∷ at_equipment (Sent (sent_report 10 (65 ∷ [])))
-    ∷ at_equipment (Leaving 0 cause.Overwritten)
+    ∷ at_equipment (Leaving 0 cause.Overwritten (Some (report (66 ∷ []))))
     ∷ at_equipment (Gone 0)
     ∷ put_in 1 (66 ∷ []))
 
@@ -150,11 +150,11 @@ abbrev pub numbered_again : List Entry
 numbered_again =
     reverse (at_equipment (EquipmentStarted [] 0)
     ∷ put_in 0 (65 ∷ [])
-    ++ at_equipment (Leaving 0 cause.Overwritten)
+    ++ at_equipment (Leaving 0 cause.Overwritten (Some (report (66 ∷ []))))
     ∷ at_equipment (EquipmentStarted found_first 5)
     ∷ tried 0 10 (65 ∷ [])
     ++ at_equipment (Received (reply 10))
-    ∷ at_equipment (Leaving 0 cause.Confirmed)
+    ∷ at_equipment (Leaving 0 cause.Confirmed None)
     ∷ at_equipment (EquipmentStarted [] 11)
     ∷ at_equipment (Storing 0 (report (66 ∷ [])))
     ∷ at_equipment (EquipmentStarted [] 13)
@@ -177,11 +177,11 @@ tried_again =
     ∷ put_in 0 (65 ∷ []) ++ put_in 1 (66 ∷ [])
     ++ at_equipment (Try 0 10)
     ∷ at_equipment (Sent (sent_report 10 (65 ∷ [])))
-    ∷ at_equipment (Leaving 0 cause.Overwritten)
+    ∷ at_equipment (Leaving 0 cause.Overwritten (Some (report (66 ∷ []))))
     ∷ at_equipment (Gone 0)
     ∷ at_equipment (Try 1 10)
     ∷ at_host (Received (sent_report 10 (65 ∷ [])))
-    ∷ at_equipment (Leaving 1 cause.Confirmed)
+    ∷ at_equipment (Leaving 1 cause.Confirmed None)
     ∷ at_equipment (Gone 1)
     ∷ [])
 
@@ -215,12 +215,31 @@ gone_alone =
     ∷ at_equipment (EquipmentStarted found_both 5)
     ∷ [])
 
+-- a report is overwritten, and no message is named for which room is made; one is confirmed, and one is named
+abbrev pub overwritten_for_none : List Entry
+overwritten_for_none =
+    reverse (at_equipment (EquipmentStarted [] 0)
+    ∷ put_in 0 (65 ∷ [])
+    ++ at_equipment (Leaving 0 cause.Overwritten None)
+    ∷ [])
+
+abbrev pub confirmed_for_one : List Entry
+confirmed_for_one =
+    reverse (at_equipment (EquipmentStarted [] 0)
+    ∷ put_in 0 (65 ∷ [])
+    ++ tried 0 10 (65 ∷ [])
+    ++ at_equipment (Received (reply 10))
+    ∷ at_equipment (Leaving 0 cause.Confirmed (Some (report (66 ∷ []))))
+    ∷ [])
+
 -- whatever purges or may overwrite
 pub record AreNotKept : Type 0 where
   pub tries_again : (policy : Policy) → SpoolIsKept policy tried_again → ⊥
   pub stores_over : (policy : Policy) → SpoolIsKept policy stored_over → ⊥
   pub stores_under : (policy : Policy) → SpoolIsKept policy stored_under → ⊥
   pub goes_alone : (policy : Policy) → SpoolIsKept policy gone_alone → ⊥
+  pub names_none : (policy : Policy) → SpoolIsKept policy overwritten_for_none → ⊥
+  pub names_one : (policy : Policy) → SpoolIsKept policy confirmed_for_one → ⊥
 
 -- ---- logs that break the order
 
@@ -232,7 +251,7 @@ abbrev pub overtaken : List Entry
 overtaken =
     reverse (both_stored
     ++ at_equipment (Try 0 10)
-    ∷ at_equipment (Leaving 0 cause.Overwritten)
+    ∷ at_equipment (Leaving 0 cause.Overwritten (Some (report (66 ∷ []))))
     ∷ at_equipment (Gone 0)
     ∷ at_equipment (Try 1 11)
     ∷ at_host (Received (sent_report 11 (66 ∷ [])))
@@ -244,7 +263,7 @@ abbrev pub skipped : List Entry
 skipped =
     reverse (both_stored
     ++ at_equipment (Try 0 10)
-    ∷ at_equipment (Leaving 0 cause.Confirmed)
+    ∷ at_equipment (Leaving 0 cause.Confirmed None)
     ∷ at_equipment (Gone 0)
     ∷ at_equipment (Try 1 11)
     ∷ at_host (Received (sent_report 11 (66 ∷ [])))
@@ -266,12 +285,12 @@ first_report = sent_report 5 (65 ∷ [])
 -- two reports are put in, and power is lost as the second one is; the first one goes out, is confirmed and leaves
 abbrev pub unload : List Scene
 unload =
-    One Equipment 0 (Started [] 1)
+    One Equipment 0 (Started (EquipmentStarted [] 1) 1)
     ∷ One Equipment 0 (says (Storing 0 (report (65 ∷ []))))
     ∷ One Equipment 0 (says (Stored 0))
     ∷ One Equipment 0 (says (Storing 1 (report (66 ∷ []))))
     ∷ One Equipment 1 (says Power)
-    ∷ One Equipment 1 (Started found_both 5)
+    ∷ One Equipment 1 (Started (EquipmentStarted found_both 5) 5)
     ∷ One Equipment 2 (does (DrewNumber 5))
     ∷ One Equipment 2 (says (Try 0 5))
     ∷ One Equipment 2 (does (SentMessage first_report))
@@ -283,7 +302,7 @@ unload =
     ∷ Block Host 7 (reply 5) 0 1
     ∷ transfer Host 8 (reply 5) 1
     ++ One Equipment 10 (does (ReceivedMessage (reply 5)))
-    ∷ One Equipment 10 (says (Leaving 0 cause.Confirmed))
+    ∷ One Equipment 10 (says (Leaving 0 cause.Confirmed None))
     ∷ One Equipment 10 (says (Gone 0))
     ∷ []
 
@@ -294,7 +313,7 @@ unload_moves = moves_after unload []
 abbrev pub plain_policy : Policy
 plain_policy = record {
   purges = λ message. message.function == 23;
-  overwrites = λ notes stands. false;
+  overwrites = λ notes stands message. false;
 }
 
 pub record UnloadsAfterLoss : Type 0 where

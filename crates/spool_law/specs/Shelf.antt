@@ -14,10 +14,11 @@ use Rattle.trace_log.specs.Names.{Spooled}
 pub data Change : Type 0 where
   -- the equipment has started, with these messages in its spool
   Finds : (found : List (ℕ × Spooled)) → Change
-  -- before and after a message is put into the spool, and before and after one is removed
+  -- before and after a message is put into the spool, and before and after one is removed, perhaps to make room for
+  -- another
   Stores : (number : ℕ) (message : Spooled) → Change
   HasStored : (number : ℕ) → Change
-  Leaves : (number : ℕ) (cause : Cause) → Change
+  Leaves : (number : ℕ) (cause : Cause) (room_for : Option Spooled) → Change
   HasGone : (number : ℕ) → Change
   -- the message of a number goes out next, with these system bytes
   Tries : (number system : ℕ) → Change
@@ -30,7 +31,7 @@ abbrev pub change_of : Happening → Change
 change_of (Happening.EquipmentStarted found base) = Finds found
 change_of (Happening.Storing number message) = Stores number message
 change_of (Happening.Stored number) = HasStored number
-change_of (Happening.Leaving number why) = Leaves number why
+change_of (Happening.Leaving number why room_for) = Leaves number why room_for
 change_of (Happening.Gone number) = HasGone number
 change_of (Happening.Try number system) = Tries number system
 change_of (Happening.Sent message) = Sends message
@@ -85,7 +86,7 @@ shelf_changed (Finds found) shelf = record { stands = found; storing = None; lea
 shelf_changed (Stores number message) shelf = record shelf { storing = Some (number, message) }
 shelf_changed (HasStored number) shelf =
     record shelf { stands = shelf.stands ++ option_to_list shelf.storing; storing = None }
-shelf_changed (Leaves number why) shelf = record shelf { leaving = Some why }
+shelf_changed (Leaves number why room_for) shelf = record shelf { leaving = Some why }
 shelf_changed (HasGone number) shelf =
     record shelf {
       stands = drop (leaving_of shelf.leaving (length shelf.stands)) shelf.stands;
@@ -120,10 +121,10 @@ received_since (what ∷ before) = received_behind (change_of what) (received_si
 -- ---- the law of the notes
 
 -- what makes room, told by other crates: that a request asks for the spool to be emptied; and that, after all that was
--- noted, these messages fill the spool and the oldest may be overwritten (SEMI E30, spooling)
+-- noted, these messages leave no room for another one and the oldest may be overwritten (SEMI E30, spooling)
 pub record Policy : Type 0 where
   pub purges : Message → Bool
-  pub overwrites : List Happening → List (ℕ × Spooled) → Bool
+  pub overwrites : List Happening → List (ℕ × Spooled) → Spooled → Bool
 
 -- nothing is being stored, and nothing is leaving
 pub record IsAtRest (shelf : Shelf) : Type 0 where
@@ -173,16 +174,24 @@ abbrev pub IsPurge : Policy → List Message → Type 0
 IsPurge policy [] = ⊥
 IsPurge policy (newest ∷ before) = policy.purges newest ≡ true
 
-abbrev pub MayLeaveFor : Policy → List Happening → Cause → Type 0
-MayLeaveFor policy notes cause.Confirmed = IsConfirmed (shelf_of notes) (received_since notes)
-MayLeaveFor policy notes cause.Purged = IsPurge policy (received_since notes)
-MayLeaveFor policy notes cause.Overwritten = policy.overwrites notes (shelf_of notes).stands ≡ true
+-- what stands leaves no room for this message, and may be overwritten for it
+abbrev pub HasNoRoomFor : Policy → List Happening → Option Spooled → Type 0
+HasNoRoomFor policy notes None = ⊥
+HasNoRoomFor policy notes (Some message) = policy.overwrites notes (shelf_of notes).stands message ≡ true
+
+-- room is made for a message by an overwriting alone
+abbrev pub MayLeaveFor : Policy → List Happening → Cause → Option Spooled → Type 0
+MayLeaveFor policy notes cause.Confirmed room_for =
+    IsConfirmed (shelf_of notes) (received_since notes) × (room_for ≡ None)
+MayLeaveFor policy notes cause.Purged room_for = IsPurge policy (received_since notes) × (room_for ≡ None)
+MayLeaveFor policy notes cause.Overwritten room_for = HasNoRoomFor policy notes room_for
 
 -- the first message leaves, or a purge that names the first one takes all
-pub record MayLeave (policy : Policy) (notes : List Happening) (number : ℕ) (why : Cause) : Type 0 where
+pub record MayLeave (policy : Policy) (notes : List Happening) (number : ℕ) (why : Cause) (room_for : Option Spooled)
+    : Type 0 where
   pub rest : IsAtRest (shelf_of notes)
   pub first : IsFirst (shelf_of notes).stands number
-  pub cause : MayLeaveFor policy notes why
+  pub cause : MayLeaveFor policy notes why room_for
 
 pub record MayHaveGone (shelf : Shelf) (number : ℕ) : Type 0 where
   pub cause : Cause
@@ -207,7 +216,7 @@ MayChange policy notes (Finds found) =
     let shelf = shelf_of notes in IsFoundOf shelf.stands shelf.storing shelf.leaving found
 MayChange policy notes (Stores number message) = MayStore (shelf_of notes) number
 MayChange policy notes (HasStored number) = MayHaveStored (shelf_of notes) number
-MayChange policy notes (Leaves number why) = MayLeave policy notes number why
+MayChange policy notes (Leaves number why room_for) = MayLeave policy notes number why room_for
 MayChange policy notes (HasGone number) = MayHaveGone (shelf_of notes) number
 MayChange policy notes (Tries number system) = IsFirst (shelf_of notes).stands number
 MayChange policy notes (Sends message) = MaySendTried (shelf_of notes).told message

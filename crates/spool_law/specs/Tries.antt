@@ -55,7 +55,7 @@ MayDoTried plan before (Says what) = MaySayTried (own_of plan before) (tries_in 
 
 abbrev pub MayMoveTried : EndPlan → List Doing → Kind → Type 0
 MayMoveTried plan before (Did doing) = MayDoTried plan before doing
-MayMoveTried plan before (Started found base) = Unit {0}
+MayMoveTried plan before (Started note base) = Unit {0}
 MayMoveTried plan before Lost = Unit {0}
 MayMoveTried plan before (Changed place byte) = Unit {0}
 MayMoveTried plan before (Added byte) = Unit {0}

@@ -1,2 +1,2 @@
-//! What an equipment owes for its spool, as its notes and doings tell of it.
+//! What an equipment owes for its spool, and a host for its journal, as their notes and doings tell of it.
 #![tactic(auto)]
