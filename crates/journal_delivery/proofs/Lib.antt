@@ -1,0 +1,7 @@
+pub mod Alike
+pub mod Ends
+pub mod Examples
+pub mod HostSteps
+pub mod Moves
+pub mod Steps
+pub mod Tried
