@@ -1,5 +1,5 @@
 -- The events of a schedule's lines, and the lines of a script, read.
-use Rattle.std.proofs.Common.{◌≡◌, ℕ, ◌-◌, ◌^◌, ◌≤◌, true, false, inl, inr, List, [], ◌∷◌, ◌++◌, length, Option, Some, None, refl, sym, ap, ◌∙◌, arith}
+use Rattle.std.proofs.Common.{◌≡◌, ℕ, ◌-◌, ◌^◌, ◌≤◌, Bool, true, false, inl, inr, List, [], ◌∷◌, ◌++◌, length, Option, Some, None, refl, sym, ap, ◌∙◌, arith}
 use Rattle.std.specs.Prelude.{codes}
 use Rattle.std.specs.Char.{is_ascii_digit}
 use Rattle.std.specs.List.{list_all}
@@ -12,12 +12,12 @@ use Rattle.line_schedule.specs.declared.event.Event.{Event}
 use Rattle.line_schedule.specs.declared.event.Event.TheVariants as event
 use Rattle.line_schedule.specs.declared.script.ScriptStep.{ScriptStep}
 use Rattle.line_schedule.specs.declared.script.ScriptStep.TheVariants as step
-use Rattle.line_schedule.specs.Events.{choice_in, event_in}
-use Rattle.line_schedule.specs.Grammar.{IsAnyNumber, IsChoice, IsEventLine, IsHexByte, IsNumber, IsPassedOver, IsScriptLine, IsStep, IsWord, Spaced}
-use Rattle.line_schedule.specs.Reading.{command_in, is_passed_over, script_line_in, step_in}
-use Rattle.line_schedule.specs.Words.{any_number_in, byte_in, number_in, read_split}
+use Rattle.line_schedule.specs.Events.{choice_in, event_in, loss_in, may_stand}
+use Rattle.line_schedule.specs.Grammar.{IsAnyNumber, IsChoice, IsEventLine, IsHexByte, IsLoss, IsPassedOver, IsScriptLine, IsStep, IsWord, Spaced}
+use Rattle.line_schedule.specs.Reading.{command_in, is_passed_over, script_line_in, step_in, told_in}
+use Rattle.line_schedule.specs.Words.{any_number_in, byte_in, read_split}
 use Rattle.line_schedule.proofs.CommandReaders.{host_command, tool_command}
-use Rattle.line_schedule.proofs.Readers.{IsFinderOf, IsReaderOf, behind, either, finds_made, finds_word, parted}
+use Rattle.line_schedule.proofs.Readers.{IsFinderOf, IsReaderOf, behind, either, finds_made, finds_word, kept, parted}
 use Rattle.line_schedule.proofs.WordReaders.{and_both, any_number, hex_byte, number, number_lacks, sided}
 
 -- ---- parts of a line
@@ -45,8 +45,8 @@ choice_again (choice.First n) text (rest, placed, is) =
 a_choice : IsReaderOf choice_in IsChoice
 a_choice = record { there = choice_there.there; again = choice_again }
 
-a_cut : IsReaderOf (read_split 32 (number_in 1 (2 ^ 32 - 1)) choice_in) (λ value. Spaced (IsNumber 1 (2 ^ 32 - 1) value.0) (IsChoice value.1))
-a_cut = parted 32 (number 1 (2 ^ 32 - 1)) a_choice (number_lacks 32 refl 1 (2 ^ 32 - 1))
+a_loss : IsReaderOf loss_in (λ value. IsLoss value.0 value.1)
+a_loss = parted 32 (number 1 (2 ^ 32 - 1)) a_choice (number_lacks 32 refl 1 (2 ^ 32 - 1))
 
 -- ---- lines of a schedule
 
@@ -60,7 +60,8 @@ event_there =
     (either
     (finds_made (λ (x : Side × (ℕ × ℕ)). event.Change x.0 x.1.0 x.1.1) (behind (codes "change ") (sided placed_byte)) (λ x text is. is))
     (either (finds_made (λ (x : Side × ℕ). event.Add x.0 x.1) (behind (codes "add ") (sided hex_byte)) (λ x text is. is))
-    (finds_made (λ (x : ℕ × CutChoice). event.Cut x.0 x.1) (behind (codes "cut ") a_cut) (λ x text is. is))))))))
+    (either (finds_made (λ (x : ℕ × CutChoice). event.Cut x.0 x.1) (behind (codes "cut ") a_loss) (λ x text is. is))
+    (finds_made (λ (x : ℕ × CutChoice). event.HostCut x.0 x.1) (behind (codes "hcut ") a_loss) (λ x text is. is)))))))))
     (either (finds_made (λ command. event.Tool command) (behind (codes "tool ") tool_command) (λ command text is. is))
     (finds_made (λ command. event.Host command) (behind (codes "host ") host_command) (λ command text is. is)))
 
@@ -88,11 +89,18 @@ event_again (event.Host command) line (rest, placed, is) =
     let told : event_in (codes "host " ++ rest) ≡ Some (event.Host command) = rw (host_command.again command rest is) refl in
     ap event_in placed ∙ told
 event_again (event.Cut call made) line (rest, placed, is) =
-    let told : event_in (codes "cut " ++ rest) ≡ Some (event.Cut call made) = rw (a_cut.again (call, made) rest is) refl in
+    let told : event_in (codes "cut " ++ rest) ≡ Some (event.Cut call made) = rw (a_loss.again (call, made) rest is) refl in
+    ap event_in placed ∙ told
+event_again (event.HostCut call made) line (rest, placed, is) =
+    let told : event_in (codes "hcut " ++ rest) ≡ Some (event.HostCut call made) = rw (a_loss.again (call, made) rest is) refl in
     ap event_in placed ∙ told
 
 pub an_event : IsReaderOf event_in IsEventLine
 an_event = record { there = event_there.there; again = event_again }
+
+-- those that may stand there
+pub a_told_event : (host_loses : Bool) → IsReaderOf (told_in host_loses) (λ told line. (may_stand host_loses told ≡ true) × IsEventLine told line)
+a_told_event host_loses = kept (may_stand host_loses) an_event
 
 -- ---- lines of a script
 

@@ -31,7 +31,7 @@ use Rattle.line_schedule.specs.declared.event.Event.TheVariants as event
 use Rattle.line_schedule.specs.declared.script.ScriptStep.{ScriptStep}
 use Rattle.line_schedule.specs.declared.script.ScriptStep.TheVariants as step
 use Rattle.line_schedule.specs.Events.{ChoiceFits, EventFits}
-use Rattle.line_schedule.specs.Grammar.{IsBody, IsChoice, IsEventLine, IsHexByte, IsHostCommand, IsScriptLine, IsStep, IsToolCommand, IsWaitAndBody}
+use Rattle.line_schedule.specs.Grammar.{IsBody, IsChoice, IsEventLine, IsHexByte, IsHostCommand, IsLoss, IsScriptLine, IsStep, IsToolCommand, IsWaitAndBody}
 use Rattle.line_schedule.specs.Script.{LineFits, StepFits}
 use Rattle.line_schedule.proofs.SpelledBytes.{spelled_bytes}
 use Rattle.line_schedule.proofs.TextItems.{text_in_range}
@@ -135,6 +135,9 @@ choice_fits choice.New text is = tt
 choice_fits (choice.Fill byte) text is = tt
 choice_fits (choice.First n) text (rest, placed, is) = is.at_most
 
+loss_fits : (call : ℕ) (made : CutChoice) (text : List ℕ) → IsLoss call made text → (1 ≤ call) × ChoiceFits made
+loss_fits call made text (first, second, same, number, is) = (number.at_least, choice_fits made second is)
+
 pub event_fits : (told : Event) (line : List ℕ) → IsEventLine told line → EventFits told
 event_fits (event.To side n) line is = tt
 event_fits (event.Lose side n) line is = tt
@@ -144,7 +147,8 @@ event_fits event.Settle line is = tt
 event_fits (event.Wait ms) line (rest, placed, is) = is.at_most
 event_fits (event.Tool command) line (rest, placed, is) = tool_fits command rest is
 event_fits (event.Host command) line (rest, placed, is) = host_fits command rest is
-event_fits (event.Cut call made) line (rest, placed, (first, second, same, number, is)) = (number.at_least, choice_fits made second is)
+event_fits (event.Cut call made) line (rest, placed, is) = loss_fits call made rest is
+event_fits (event.HostCut call made) line (rest, placed, is) = loss_fits call made rest is
 
 step_fits : (side : Side) (made : ScriptStep) (text : List ℕ) → IsStep side made text → StepFits made
 step_fits Equipment (step.Tool command) text is = tool_fits command text is

@@ -6,6 +6,7 @@ use Rattle.std.specs.Option.{option_and_then, option_map, option_or, option_zip}
 use Rattle.std.proofs.lemmas.List.{take_at, drop_at, take-append-drop}
 use Rattle.std.proofs.Math.Seq.{drop-append-add}
 use Rattle.std.proofs.lemmas.Slice.Eq.{bytes_eq-Decides}
+use Rattle.line_schedule.specs.Reading.{only_where}
 use Rattle.line_schedule.specs.Words.{after, read_after, read_split, word_in}
 use Rattle.line_schedule.specs.Grammar.{After, IsWord, Split}
 use Rattle.line_schedule.proofs.Places.{Lacks, found_behind, stands_at}
@@ -89,6 +90,25 @@ parted {V} {W} {first} {second} {First} {Second} separator a b lacks = record {
   again value text (before, after, placed, p, q) =
       let past : drop (length before + 1) (before ++ separator ∷ after) ≡ after = drop-append-add before (separator ∷ after) 1 in
       rw (placed, found_behind separator before after (lacks value.0 before p), take_at before (separator ∷ after) (length before) refl, past, a.again value.0 before p, b.again value.1 after q) refl
+
+-- ---- some of the values
+
+-- those alone that a test lets pass
+pub kept : {V : Type 0} {read : List ℕ → Option V} {Is : V → List ℕ → Type 0} (may : V → Bool) → IsReaderOf read Is →
+    IsReaderOf (λ text. only_where may (read text)) (λ value text. (may value ≡ true) × Is value text)
+kept {V} {read} {Is} may reader = record {
+  there = λ value text h. there value text (read text) refl h;
+  again = λ value text is. rw (reader.again value text is.1, is.0) refl;
+} where
+  passed : (value found : V) (t : Bool) → may found ≡ t → cond t (Some found) None ≡ Some value → (found ≡ value) × (may found ≡ true)
+  passed value found true e h = (cc, e)
+  passed value found false e h = absurd cc
+
+  there : (value : V) (text : List ℕ) (o : Option V) → read text ≡ o → only_where may o ≡ Some value → (may value ≡ true) × Is value text
+  there value text None e h = absurd cc
+  there value text (Some found) e h =
+      let same = passed value found (may found) refl h in
+      subst (λ (v : V). (may v ≡ true) × Is v text) same.0 (same.1, reader.there found text e)
 
 -- ---- choices
 

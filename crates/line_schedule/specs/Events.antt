@@ -1,5 +1,5 @@
 -- The events that lines of a schedule tell, found by functions that compute; their ranges (this profile).
-use Rattle.std.specs.Prelude.{ℕ, ◌-◌, ◌^◌, ◌<◌, ◌≤◌, List, codes, Option}
+use Rattle.std.specs.Prelude.{◌≡◌, ℕ, ◌-◌, ◌^◌, ◌<◌, ◌≤◌, Bool, true, List, codes, Option}
 use Rattle.std.specs.Option.{option_map, option_or}
 use Rattle.disk_base.specs.declared.cut.CutChoice.{CutChoice}
 use Rattle.disk_base.specs.declared.cut.CutChoice.TheVariants as choice
@@ -45,16 +45,22 @@ choice_in text =
     option_or (word_in (codes "old") choice.Old text)
     (option_or (word_in (codes "new") choice.New text) (option_or (fill_in text) (first_in text)))
 
+-- the disk call at which power goes, and what that leaves
+abbrev pub loss_in : List ℕ → Option (ℕ × CutChoice)
+loss_in = read_split 32 (number_in 1 (2 ^ 32 - 1)) choice_in
+
 abbrev pub cut_in : List ℕ → Option Event
-cut_in line =
-    option_map (λ x. event.Cut x.0 x.1)
-    (read_after (codes "cut ") (read_split 32 (number_in 1 (2 ^ 32 - 1)) choice_in) line)
+cut_in line = option_map (λ x. event.Cut x.0 x.1) (read_after (codes "cut ") loss_in line)
+
+abbrev pub host_cut_in : List ℕ → Option Event
+host_cut_in line = option_map (λ x. event.HostCut x.0 x.1) (read_after (codes "hcut ") loss_in line)
 
 -- an event that is no command of an end
 abbrev pub line_event_in : List ℕ → Option Event
 line_event_in line =
     option_or (to_in line) (option_or (settle_in line) (option_or (wait_in line)
-    (option_or (lose_in line) (option_or (change_in line) (option_or (add_in line) (cut_in line))))))
+    (option_or (lose_in line) (option_or (change_in line) (option_or (add_in line)
+    (option_or (cut_in line) (host_cut_in line)))))))
 
 -- ---- the ends
 
@@ -83,4 +89,15 @@ EventFits (event.Wait ms) = ms ≤ 1000000
 EventFits (event.Tool command) = ToolCommandFits command
 EventFits (event.Host command) = HostCommandFits command
 EventFits (event.Cut call choice) = (1 ≤ call) × ChoiceFits choice
+EventFits (event.HostCut call choice) = (1 ≤ call) × ChoiceFits choice
 EventFits _ = Unit {0}
+
+-- ---- whose power may be lost
+
+-- the equipment's always, the host's where it has a disk of its own
+abbrev pub may_stand : (host_loses : Bool) → Event → Bool
+may_stand host_loses (event.HostCut call choice) = host_loses
+may_stand host_loses _ = true
+
+abbrev pub EventFitsIn : (host_loses : Bool) → Event → Type 0
+EventFitsIn host_loses event = (may_stand host_loses event ≡ true) × EventFits event

@@ -132,7 +132,12 @@ IsChoice choice.New = IsWord (codes "new")
 IsChoice (choice.Fill byte) = After (codes "fill ") (IsHexByte byte)
 IsChoice (choice.First n) = After (codes "first ") (IsAnyNumber n)
 
--- `to X n`, `lose X n`, `change X p b`, `add X b`, `settle`, `wait ms`, `tool C`, `host C` or `cut k choice`
+-- `k choice`
+abbrev pub IsLoss : ℕ → CutChoice → List ℕ → Type 0
+IsLoss call choice = Spaced (IsNumber 1 (2 ^ 32 - 1) call) (IsChoice choice)
+
+-- `to X n`, `lose X n`, `change X p b`, `add X b`, `settle`, `wait ms`, `tool C`, `host C`, `cut k choice` or
+-- `hcut k choice`
 abbrev pub IsEventLine : Event → List ℕ → Type 0
 IsEventLine (event.To side n) = After (codes "to ") (AfterSide side (IsAnyNumber n))
 IsEventLine (event.Lose side n) = After (codes "lose ") (AfterSide side (IsAnyNumber n))
@@ -143,8 +148,8 @@ IsEventLine event.Settle = IsWord (codes "settle")
 IsEventLine (event.Wait ms) = After (codes "wait ") (IsNumber 0 1000000 ms)
 IsEventLine (event.Tool command) = After (codes "tool ") (IsToolCommand command)
 IsEventLine (event.Host command) = After (codes "host ") (IsHostCommand command)
-IsEventLine (event.Cut call choice) =
-    After (codes "cut ") (Spaced (IsNumber 1 (2 ^ 32 - 1) call) (IsChoice choice))
+IsEventLine (event.Cut call choice) = After (codes "cut ") (IsLoss call choice)
+IsEventLine (event.HostCut call choice) = After (codes "hcut ") (IsLoss call choice)
 
 -- ---- lines of a script
 

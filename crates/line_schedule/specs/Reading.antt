@@ -10,7 +10,7 @@ use Rattle.line_schedule.specs.declared.schedule.ScheduleFault.TheVariants as fa
 use Rattle.line_schedule.specs.declared.script.ScriptStep.{ScriptStep}
 use Rattle.line_schedule.specs.declared.script.ScriptStep.TheVariants as step
 use Rattle.line_schedule.specs.Commands.{host_command_in, tool_command_in}
-use Rattle.line_schedule.specs.Events.{event_in}
+use Rattle.line_schedule.specs.Events.{event_in, may_stand}
 use Rattle.line_schedule.specs.Words.{any_number_in, read_split, word_in}
 use Rattle.line_schedule.specs.Schedule.{moment_of_event, most_lines}
 use Rattle.line_schedule.specs.Script.{moment_of_line, most_script_lines}
@@ -56,20 +56,29 @@ abbrev pub is_passed_over : List ℕ → Bool
 is_passed_over [] = true
 is_passed_over (b ∷ rest) = b == 35
 
+-- a value that passes a test
+abbrev pub only_where : {V : Type 0} → (V → Bool) → Option V → Option V
+only_where may None = None
+only_where may (Some value) = if may value then Some value else None
+
+-- the event that a line tells, where that may stand there
+abbrev pub told_in : (host_loses : Bool) → List ℕ → Option Event
+told_in host_loses line = only_where (may_stand host_loses) (event_in line)
+
 -- the event of the line of a number
 abbrev pub event_answer : ℕ → Option Event → Result (Option Event) ScheduleFault
 event_answer number None = Err (fault.Line number)
 event_answer number (Some event) = Ok (Some event)
 
-abbrev pub schedule_answer : ℕ → List ℕ → Result (Option Event) ScheduleFault
-schedule_answer number line =
+abbrev pub schedule_answer : (host_loses : Bool) → ℕ → List ℕ → Result (Option Event) ScheduleFault
+schedule_answer host_loses number line =
     if nat_lt most_lines number then Err (fault.Line number)
     else if is_passed_over line then Ok None
-    else event_answer number (event_in line)
+    else event_answer number (told_in host_loses line)
 
-abbrev pub schedule_reader : LineReader Event
-schedule_reader =
-    record { answer = λ number least line. schedule_answer number line; moment_of = moment_of_event }
+abbrev pub schedule_reader : (host_loses : Bool) → LineReader Event
+schedule_reader host_loses =
+    record { answer = λ number least line. schedule_answer host_loses number line; moment_of = moment_of_event }
 
 -- ---- lines of a script
 

@@ -1,7 +1,7 @@
 //! The events of a schedule as values, and the ranges that they keep to.
 
 ghost use Rattle.std.specs.Prelude.{◌≡◌, ◌↔◌, IsTrue};
-ghost use Rattle.line_schedule.specs.Events.{ChoiceFits, EventFits};
+ghost use Rattle.line_schedule.specs.Events.{ChoiceFits, EventFits, EventFitsIn, may_stand};
 
 use disk_base::CutChoice;
 use gl_base::Side;
@@ -31,6 +31,8 @@ pub enum Event {
     /// loses its power; where fewer are made it loses it at the event's end. What was written and not settled is left
     /// as the choice says.
     Cut(u32, CutChoice),
+    /// The same of the host and its disk, where it has one.
+    HostCut(u32, CutChoice),
 }
 
 /// How far a line may move the clock on, in milliseconds.
@@ -48,7 +50,26 @@ impl Event {
             Event::Wait(milliseconds) => *milliseconds <= LONGEST_WAIT,
             Event::Tool(command) => command.fits(),
             Event::Host(command) => command.fits(),
-            Event::Cut(call, choice) => 1 <= *call && choice_fits(*choice),
+            Event::Cut(call, choice) | Event::HostCut(call, choice) => {
+                1 <= *call && choice_fits(*choice)
+            }
+            _ => true,
+        }
+    }
+
+    /// Whether it is within its ranges, and no loss of a host that doesn't lose its power.
+    pub(crate) fn fits_in(&self, host_loses: bool) -> bool
+        ensures { IsTrue result ↔ EventFitsIn host_loses self.now }
+    {
+        self.may_stand(host_loses) && self.fits()
+    }
+
+    /// Whether it is none of the host's losses, where that doesn't lose its power.
+    pub(crate) fn may_stand(&self, host_loses: bool) -> bool
+        ensures { result ≡ may_stand host_loses self.now }
+    {
+        match self {
+            Event::HostCut(_, _) => host_loses,
             _ => true,
         }
     }

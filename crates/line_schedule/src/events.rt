@@ -1,7 +1,7 @@
 //! The events that lines of a schedule tell.
 
 ghost use Rattle.std.specs.Prelude.{◌≡◌, IfOk};
-ghost use Rattle.line_schedule.specs.Events.{add_in, change_in, choice_in, cut_in, event_in, fill_in, first_in, host_in, line_event_in, lose_in, settle_in, to_in, tool_in, wait_in};
+ghost use Rattle.line_schedule.specs.Events.{add_in, change_in, choice_in, cut_in, event_in, fill_in, first_in, host_cut_in, host_in, line_event_in, loss_in, lose_in, settle_in, to_in, tool_in, wait_in};
 ghost use Rattle.line_schedule.specs.Words.{any_number_in, byte_in, read_side, read_split};
 
 use crate::event::{Event, LONGEST_WAIT};
@@ -47,7 +47,10 @@ fn line_event_in(line: &[u8]) -> Option<Event>
     if let Some(event) = add_in(line) {
         return Some(event);
     }
-    cut_in(line)
+    if let Some(event) = cut_in(line) {
+        return Some(event);
+    }
+    host_cut_in(line)
 }
 
 /// `to X n`
@@ -124,10 +127,26 @@ fn wait_in(line: &[u8]) -> Option<Event>
 fn cut_in(line: &[u8]) -> Option<Event>
     ensures { result ≡ cut_in line.now }
 {
-    let (call, choice) = split_at(b' ', after(b"cut ", line)?)?;
+    let (call, choice) = loss_in(after(b"cut ", line)?)?;
+    Some(Event::Cut(call, choice))
+}
+
+/// `hcut k choice`
+fn host_cut_in(line: &[u8]) -> Option<Event>
+    ensures { result ≡ host_cut_in line.now }
+{
+    let (call, choice) = loss_in(after(b"hcut ", line)?)?;
+    Some(Event::HostCut(call, choice))
+}
+
+/// `k choice`
+fn loss_in(text: &[u8]) -> Option<(u32, CutChoice)>
+    ensures { result ≡ loss_in text.now }
+{
+    let (call, choice) = split_at(b' ', text)?;
     let call = number_in(1, u32::MAX, call)?;
     let choice = choice_in(choice)?;
-    Some(Event::Cut(call, choice))
+    Some((call, choice))
 }
 
 /// `old`, `new`, `fill b` or `first n`

@@ -2,7 +2,9 @@
 
 use disk_base::CutChoice;
 use gl_base::{NoMemory, Row, Side};
-use line_schedule::{Event, Schedule, ScheduleFault, ScriptStep, read_schedule, read_script};
+use line_schedule::{
+    Event, Schedule, ScheduleFault, ScriptStep, read_journal_schedule, read_schedule, read_script,
+};
 use std::alloc::Global;
 use std::test::Fail;
 use trace_log::{HostCommand, ToolCommand};
@@ -244,6 +246,29 @@ fn reads_what_lines_say(rt: HostRuntime) -> Result<(), Fail> {
     assert!(rt; adds(told(alloc, b"add H 15")));
     assert!(rt; cuts(told(alloc, b"cut 4294967295 fill A5")));
     assert!(rt; cuts_to_the_first(told(alloc, b"cut 1 first 4294967295")));
+    Ok(())
+}
+
+fn cuts_the_host(alloc: Global, line: &[u8]) -> bool {
+    match read_journal_schedule(alloc, line) {
+        Ok(schedule) => {
+            schedule.fits()
+                && matches!(
+                    schedule.events.as_slice(),
+                    [Event::HostCut(4, CutChoice::New)]
+                )
+        }
+        Err(_) => false,
+    }
+}
+
+// A loss of the host's power is told in the world of a host with a journal alone.
+#[test]
+fn reads_losses_of_a_host_with_a_journal(rt: HostRuntime) -> Result<(), Fail> {
+    let alloc = rt.alloc();
+    assert!(rt; cuts_the_host(alloc, b"hcut 4 new"));
+    assert!(rt; !cuts_the_host(alloc, b"hcut 0 new"));
+    assert!(rt; refuses(alloc, b"settle\nhcut 4 new\n", ScheduleFault::Line(2)));
     Ok(())
 }
 
