@@ -5,7 +5,7 @@ use Rattle.gl_base.specs.declared.side.Side.TheVariants.{Equipment, Host}
 use Rattle.message_end.specs.Doings.{Doing}
 use Rattle.message_end.specs.Moves.{Kind, LinePlans, Move}
 use Rattle.message_end.specs.Moves.Kind.{Did}
-use Rattle.trace_log.specs.Names.{Spooled}
+use Rattle.trace_log.specs.Log.{Happening}
 use Rattle.end_pair.specs.InSteps.{AreAtStates, AreSteps, ComeInSteps, IsCutBehind, IsFate, moves_with, power_at, started_at}
 use Rattle.end_pair.specs.InSteps.AreSteps.{both_start, line_changes, one_step, starts_anew}
 use Rattle.end_pair.specs.InSteps.ComeInSteps.{at_a_step, in_a_step, without_power}
@@ -24,9 +24,10 @@ pub record AreKept {S T : Type 0}
       (side : Side) (moment : ℕ) (kind : Kind) (before : List Move) → IsFate kind → AtEach before
       → AtEach (record { side = side; moment = moment; kind = kind } ∷ before)
   pub start :
-      (side : Side) (moment : ℕ) (found : List (ℕ × Spooled)) (base : ℕ) (before : List Move) → AtEach before
-      → AtEach (started_at side moment found base ∷ before)
-  pub power : (moment : ℕ) (before : List Move) → AtEach before → AtEach (power_at moment ∷ before)
+      (side : Side) (moment : ℕ) (note : Happening) (base : ℕ) (before : List Move) → AtEach before
+      → AtEach (started_at side moment note base ∷ before)
+  pub power :
+      (side : Side) (moment : ℕ) (before : List Move) → AtEach before → AtEach (power_at side moment ∷ before)
 
 module _ {S T : Type 0}
     (equipment : ℕ → List Doing → S → Type 0) (host : ℕ → List Doing → T → Type 0) (plans : LinePlans)
@@ -49,24 +50,24 @@ module _ {S T : Type 0}
       subst AtEach (sym cut.is) ((doings-back side moment cut.done before (subst SoFar cut.is so_far)).1 each)
 
   steps-keep : (moves : List Move) → AreSteps equipment host plans moves → AtEach moves
-  steps-keep moves (both_start _ found found_there base base_there is at) =
+  steps-keep moves (both_start _ note note_there base base_there is start start_there at) =
       subst AtEach (sym is)
-      (kept.start Host 0 found_there base_there (started_at Equipment 0 found base ∷ [])
-      (kept.start Equipment 0 found base [] kept.none))
+      (kept.start Host 0 note_there base_there (started_at Equipment 0 note base ∷ [])
+      (kept.start Equipment 0 note base [] kept.none))
   steps-keep moves (one_step _ before side moment done is step at steps) =
       subst AtEach (sym is)
       ((doings-back side moment done before (subst SoFar is (kept.law moves at))).1 (steps-keep before steps))
   steps-keep moves (line_changes _ before side moment kind is fate steps) =
       subst AtEach (sym is) (kept.fate side moment kind before fate (steps-keep before steps))
-  steps-keep moves (starts_anew _ cut before moment found base is is_cut at steps) =
+  steps-keep moves (starts_anew _ cut before side moment note base is start is_cut at steps) =
       subst AtEach (sym is)
-      (kept.start Equipment moment found base (power_at moment ∷ cut)
-      (kept.power moment cut (cut-keeps Equipment moment before cut is_cut (steps-keep before steps))))
+      (kept.start side moment note base (power_at side moment ∷ cut)
+      (kept.power side moment cut (cut-keeps side moment before cut is_cut (steps-keep before steps))))
 
   pub at-each-move : (moves : List Move) → ComeInSteps equipment host plans moves → AtEach moves
   at-each-move moves (at_a_step steps) = steps-keep moves steps
   at-each-move moves (in_a_step before side moment cut steps) =
       cut-keeps side moment before moves cut (steps-keep before steps)
-  at-each-move moves (without_power dark before moment is cut steps) =
+  at-each-move moves (without_power dark before side moment is cut steps) =
       subst AtEach (sym is)
-      (kept.power moment dark (cut-keeps Equipment moment before dark cut (steps-keep before steps)))
+      (kept.power side moment dark (cut-keeps side moment before dark cut (steps-keep before steps)))

@@ -9,12 +9,30 @@ use Rattle.message_end.specs.Ends.{Input, Loss, Machine, call_of}
 use Rattle.trace_log.specs.Log.{Happening}
 use Rattle.end_pair.specs.declared.answers.WorldStep.TheVariants as answer
 use Rattle.end_pair.specs.Laws.{EndsByCause}
-use Rattle.end_pair.specs.Steps.{Stepped, made, made_by, slipped, slips, stepped, stopped_for}
+use Rattle.end_pair.specs.Steps.{Stepped, made, made_by, slipped, slips, spent_for, stepped, stopped_for}
 
 -- a disk that stops a step doesn't let it go on
-pub never-on : (is_cut : Bool) → stopped_for is_cut ≡ answer.Went → ⊥
-never-on true is = absurd (cc)
-never-on false is = absurd (cc)
+pub never-on : (side : Side) (is_cut : Bool) → stopped_for side is_cut ≡ answer.Went → ⊥
+never-on side true is = absurd (cc)
+never-on side false is = absurd (cc)
+
+-- nor does what ends it early, and no power is lost with that
+pub never-early : (fills : Bool) → spent_for fills ≡ answer.Went → ⊥
+never-early true is = absurd (cc)
+never-early false is = absurd (cc)
+
+pub early-powered : (fills : Bool) (whose : Side) → spent_for fills ≡ answer.PowerLost whose → ⊥
+early-powered true whose is = absurd (cc)
+early-powered false whose is = absurd (cc)
+
+-- and a power that is lost is that of the step's own end
+same-end : (one other : Side) → answer.PowerLost one ≡ answer.PowerLost other → other ≡ one
+same-end one other same = cc
+
+pub stopped-own : (side : Side) (is_cut : Bool) (whose : Side) → stopped_for side is_cut ≡ answer.PowerLost whose
+    → whose ≡ side
+stopped-own side true whose is = same-end side whose is
+stopped-own side false whose is = absurd (cc)
 
 module _ {S C : Type 0} (machine : Machine S C) (side : Side) (now call : ℕ) (is_cut : Bool) (choice : CutChoice)
     (input : Input C) (s : S) (ways : Ways) where
@@ -56,35 +74,59 @@ module _ {S C : Type 0} (machine : Machine S C) (side : Side) (now call : ℕ) (
           record {
             slip = (λ slip. cc, λ slip. cc);
             lost = (λ lost. cc, λ cause. let both = sym whole ∙ cause.1.1.1 in cc);
-            full = (λ full. cc, λ cause. let both = sym whole ∙ cause.1.1.1 in cc);
-            spent = (λ spent. cc, λ cause. let both = sym is ∙ cause.1.1.1 in cc);
+            crowded = (λ crowded. cc, λ cause. let both = sym whole ∙ cause.1.1.1 in cc);
+            spent = (λ spent. cc, λ cause. let both = sym is ∙ cause.0.1.1.1 in cc);
+            full = (λ full. cc, λ cause. let both = sym is ∙ cause.0.1.1.1 in cc);
             no_other = λ other. cc;
+            no_other_end = λ other lost. let both = sym how ∙ lost in absurd (cc);
           }
       by_went none whole (Spent step) is =
-          let how = how-made none whole (Spent step) is in
-          record {
-            slip = (λ slip. cc, λ slip. cc);
-            lost = (λ lost. cc, λ cause. let both = sym whole ∙ cause.1.1.1 in cc);
-            full = (λ full. cc, λ cause. let both = sym whole ∙ cause.1.1.1 in cc);
-            spent = (λ spent. (none, (whole, (step, is))), λ cause. how);
-            no_other = λ other. cc;
-          }
+          by_fills (machine.fills s input now) refl (how-made none whole (Spent step) is)
+        where
+          by_fills : (b : Bool) → machine.fills s input now ≡ b → here.went ≡ spent_for (machine.fills s input now)
+              → Ends
+          by_fills false room is_made =
+              let how : here.went ≡ answer.NumbersSpent = is_made ∙ ap spent_for room in
+              record {
+                slip = (λ slip. cc, λ slip. cc);
+                lost = (λ lost. cc, λ cause. let both = sym whole ∙ cause.1.1.1 in cc);
+                crowded = (λ crowded. cc, λ cause. let both = sym whole ∙ cause.1.1.1 in cc);
+                spent = (λ spent. ((none, (whole, (step, is))), room), λ cause. how);
+                full = (λ full. cc, λ cause. let other = cause.1 in cc);
+                no_other = λ other. cc;
+                no_other_end = λ other lost. let both = sym how ∙ lost in absurd (cc);
+              }
+          by_fills true fills is_made =
+              let how : here.went ≡ answer.JournalFull = is_made ∙ ap spent_for fills in
+              record {
+                slip = (λ slip. cc, λ slip. cc);
+                lost = (λ lost. cc, λ cause. let both = sym whole ∙ cause.1.1.1 in cc);
+                crowded = (λ crowded. cc, λ cause. let both = sym whole ∙ cause.1.1.1 in cc);
+                spent = (λ spent. cc, λ cause. let other = cause.1 in cc);
+                full = (λ full. ((none, (whole, (step, is))), fills), λ cause. how);
+                no_other = λ other. cc;
+                no_other_end = λ other lost. let both = sym how ∙ lost in absurd (cc);
+              }
 
       by_stop : found ≡ false → (loss : Loss S) → planned ≡ Some loss → (b : Bool) → is_cut ≡ b
-          → here.went ≡ stopped_for b → Ends
+          → here.went ≡ stopped_for side b → Ends
       by_stop none loss is true cut how = record {
         slip = (λ slip. cc, λ slip. cc);
         lost = (λ lost. (cut, (none, (loss, is))), λ cause. how);
-        full = (λ full. cc, λ cause. let other = cause.0 in cc);
-        spent = (λ spent. cc, λ cause. let both = sym is ∙ cause.1.0 in cc);
+        crowded = (λ crowded. cc, λ cause. let other = cause.0 in cc);
+        spent = (λ spent. cc, λ cause. let both = sym is ∙ cause.0.1.0 in cc);
+        full = (λ full. cc, λ cause. let both = sym is ∙ cause.0.1.0 in cc);
         no_other = λ other. cc;
+        no_other_end = λ other lost. same-end side other (sym how ∙ lost);
       }
       by_stop none loss is false cut how = record {
         slip = (λ slip. cc, λ slip. cc);
         lost = (λ lost. cc, λ cause. let other = cause.0 in cc);
-        full = (λ full. (cut, (none, (loss, is))), λ cause. how);
-        spent = (λ spent. cc, λ cause. let both = sym is ∙ cause.1.0 in cc);
+        crowded = (λ crowded. (cut, (none, (loss, is))), λ cause. how);
+        spent = (λ spent. cc, λ cause. let both = sym is ∙ cause.0.1.0 in cc);
+        full = (λ full. cc, λ cause. let both = sym is ∙ cause.0.1.0 in cc);
         no_other = λ other. cc;
+        no_other_end = λ other lost. let both = sym how ∙ lost in absurd (cc);
       }
 
       by_lost : found ≡ false → (lost : Option (Loss S)) → planned ≡ lost → Ends
@@ -97,16 +139,18 @@ module _ {S C : Type 0} (machine : Machine S C) (side : Side) (now call : ℕ) (
           record {
             slip = (λ slip. is, λ slip. how);
             lost = (λ lost. cc, λ cause. let other = cause.1.0 in cc);
-            full = (λ full. cc, λ cause. let other = cause.1.0 in cc);
-            spent = (λ spent. cc, λ cause. let other = cause.0 in cc);
+            crowded = (λ crowded. cc, λ cause. let other = cause.1.0 in cc);
+            spent = (λ spent. cc, λ cause. let other = cause.0.0 in cc);
+            full = (λ full. cc, λ cause. let other = cause.0.0 in cc);
             no_other = λ other. cc;
+            no_other_end = λ other lost. let both = sym how ∙ lost in absurd (cc);
           }
       by_slip false is = by_lost is planned refl
 
   -- where its disk has no room for a call, none is left
   pub no-call : here.went ≡ answer.Turns → call - here.calls ≡ 0
-  no-call full =
-      let cause = by-cause.full.0 full in
+  no-call crowded =
+      let cause = by-cause.crowded.0 crowded in
       let calls : here.calls ≡ call =
       ap (λ (b : Bool). (if b then slipped side now s ways else made_by machine side now call is_cut choice input s ways
       planned).calls) cause.1.0

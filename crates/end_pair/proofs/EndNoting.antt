@@ -20,7 +20,7 @@ use Rattle.end_pair.specs.declared.answers.WorldStep.TheVariants as answer
 use Rattle.end_pair.specs.Noted.{AreTimesOf, IsBrokenThen, IsFilledThen, IsMetThen, TimedNotes, noted_by, timed_behind, timed_by}
 use Rattle.end_pair.specs.Steps.{Stepped, entries_of, made, made_by, slipped, slips, stepped, stopped_at}
 use Rattle.end_pair.specs.World.{met}
-use Rattle.end_pair.proofs.Causes.{never-on}
+use Rattle.end_pair.proofs.Causes.{early-powered, never-early, never-on}
 
 -- ---- notes as entries
 
@@ -129,9 +129,9 @@ module _ {S C : Type 0} (start : Step S Happening) (machine : Machine S C) (side
 
   -- a step of it
   pub record HasNoted (step : Stepped S) (now : ℕ) (choice : CutChoice) (log : List Entry) : Type 0 where
-    pub noted : step.went ≢ answer.PowerLost → IsNoted (step.entries ++ log)
+    pub noted : ((whose : Side) → step.went ≢ answer.PowerLost whose) → IsNoted (step.entries ++ log)
     pub on : step.went ≡ answer.Went → IsReached step.end (step.entries ++ log)
-    pub broken : step.went ≡ answer.PowerLost → IsBroken now choice step.end (step.entries ++ log)
+    pub broken : step.went ≡ answer.PowerLost side → IsBroken now choice step.end (step.entries ++ log)
 
   pub own-entries : (now : ℕ) (notes : List Happening) (log : List Entry)
       → noted_by side (entries_of side now notes ++ log) ≡ noted_behind notes (noted_by side log)
@@ -244,8 +244,8 @@ module _ {S C : Type 0} (start : Step S Happening) (machine : Machine S C) (side
             ),
           );
         };
-        on = λ on. absurd (cc);
-        broken = λ dark. absurd (cc);
+        on = λ on. absurd (never-early (machine.fills s input now) on);
+        broken = λ dark. absurd (early-powered (machine.fills s input now) side dark);
       }
 
   -- a disk stops it, which ends all or loses the power
@@ -275,7 +275,7 @@ module _ {S C : Type 0} (start : Step S Happening) (machine : Machine S C) (side
         ),
       );
     };
-    on = λ on. absurd (never-on is_cut on);
+    on = λ on. absurd (never-on side is_cut on);
     broken = λ dark. record {
       s = s;
       notes = noted_by side log;
@@ -322,6 +322,33 @@ module _ {S C : Type 0} (start : Step S Happening) (machine : Machine S C) (side
     pub met : List (Meeting C)
     pub is : course_of start machine met ≡ went_on went (Power ∷ noted_by side log)
     pub times : AreTimesOf start machine met (timed_behind now (Power ∷ (step_in went).notes) (timed_by side log))
+
+  pub again-noted : (now : ℕ) (went : Went S Happening) (log : List Entry) → HasAgain now went log
+      → IsNoted (entries_of side now (Power ∷ (step_in went).notes) ++ log)
+  again-noted now went log is = record {
+    met = is.met;
+    is = own-entries now (Power ∷ (step_in went).notes) log ∙ same went ∙ sym (ap (λ (c : Course S). notes_of c) is.is);
+    timed =
+        subst (λ (timed : TimedNotes). AreTimesOf start machine is.met timed)
+        (sym (timed-entries now (Power ∷ (step_in went).notes) log)) is.times;
+  }
+    where
+      same : (went : Went S Happening)
+          → noted_behind (Power ∷ (step_in went).notes) (noted_by side log)
+          ≡ notes_of (went_on went (Power ∷ noted_by side log))
+      same (Goes step) = refl
+      same (Spent step) = refl
+
+  pub again-goes : (now : ℕ) (step : Step S Happening) (log : List Entry) → HasAgain now (Goes step) log
+      → IsReached step.next (entries_of side now (Power ∷ step.notes) ++ log)
+  again-goes now step log is = record {
+    met = is.met;
+    is =
+        is.is ∙ ap (λ (ns : List Happening). Reached step.next ns) (sym (own-entries now (Power ∷ step.notes) log));
+    timed =
+        subst (λ (timed : TimedNotes). AreTimesOf start machine is.met timed)
+        (sym (timed-entries now (Power ∷ step.notes) log)) is.times;
+  }
 
   pub again-reached : (now : ℕ) (s : S) (log : List Entry) → IsReached s log → HasAgain now (machine.restart s now) log
   again-reached now s log at = record {

@@ -3,7 +3,6 @@ use Rattle.std.proofs.Common.{◌≡◌, ◌⊎◌, inl, inr, ℕ, Bool, false, 
 use Rattle.std.proofs.lemmas.List.{append_cancel_left}
 use Rattle.disk_base.specs.declared.cut.CutChoice.{CutChoice}
 use Rattle.gl_base.specs.declared.side.Side.{Side}
-use Rattle.gl_base.specs.declared.side.Side.TheVariants.{Equipment}
 use Rattle.line_end.specs.declared.event.Phase.{Phase}
 use Rattle.line_end.specs.Step.{LineCall}
 use Rattle.line_end.specs.Step.LineCall.{Take, Tick}
@@ -35,8 +34,8 @@ use Rattle.end_pair.specs.Steps.{gives, slips, stopped_at}
 use Rattle.end_pair.proofs.Doing.{AreDone, AreOnWay, IsNext, NoSlipIn, are-done, deeds_by, no-slip, no-slip-first, on-way-first, step-deeds}
 use Rattle.end_pair.proofs.DoingMoves.{IsAt, deeds-moves, keep-done, line-moves, log-done, log_with-behind, own-base, own-doings, timely-done}
 use Rattle.end_pair.proofs.EndedSteps.{none-done, of-cut-step}
-use Rattle.end_pair.proofs.Moved.{HasFallen, HasStopped, calls-on, calls-quiet, like-no-slip}
-use Rattle.end_pair.proofs.Renamed.{IsLike, dark-like, renamed, renamed-dark}
+use Rattle.end_pair.proofs.Moved.{HasFallen, HasLostAll, HasStopped, calls-on, calls-quiet, like-no-slip}
+use Rattle.end_pair.proofs.Renamed.{IsLike, dark-like, renamed, renamed-dark, renaming-dark}
 
 -- ---- the first calls of a step are none, the timer alone, or those of a step
 
@@ -91,67 +90,68 @@ begun input now (call ∷ later) calls of =
 
 -- ---- the line without power
 
-abbrev dark : Line → Line
-dark line = line_after_deed line (record { side = Equipment; act = PowerLoss })
+abbrev dark : Side → Line → Line
+dark side line = line_after_deed line (record { side = side; act = PowerLoss })
 
 -- the power goes where nothing was called since
-pub dark-now : (ways : Ways) (line : Line) → IsLike ways line → IsLike (without_power Equipment ways) (dark line)
-dark-now ways line like = record {
+dark-now : (side : Side) (ways : Ways) (line : Line) → IsLike ways line
+    → IsLike (without_power side ways) (dark side line)
+dark-now side ways line like = record {
   name = like.name;
-  is = like.is;
+  is = renaming-dark like.name side ways like.is;
   stands =
-      subst (λ (w : Ways). StandsFor w (dark line)) (sym (renamed-dark like.name Equipment ways))
-      (power-stands Equipment (renamed like.name ways) line like.stands);
+      subst (λ (w : Ways). StandsFor w (dark side line)) (sym (renamed-dark like.name side ways))
+      (power-stands side (renamed like.name ways) line like.stands);
 }
 
 -- or behind calls of a step
 dark-behind :
-    {C : Type 0} (input : Input C) (now : ℕ) (calls : List LineCall) (ways : Ways) (line : Line) → IsLike ways line
-    → IsRun line (deeds_by Equipment calls) → AreOfStep input now calls
-    → IsLike (without_power Equipment ways) (dark (line_after line (deeds_by Equipment calls)))
-dark-behind input now calls ways line like run of =
-    dark-like (gives input) phase written ways line (dark after) like
-    (power-stands Equipment (ways_after Equipment (gives input) phase written (renamed like.name ways)) after
+    {C : Type 0} (side : Side) (input : Input C) (now : ℕ) (calls : List LineCall) (ways : Ways) (line : Line)
+    → IsLike ways line → IsRun line (deeds_by side calls) → AreOfStep input now calls
+    → IsLike (without_power side ways) (dark side (line_after line (deeds_by side calls)))
+dark-behind side input now calls ways line like run of =
+    dark-like (gives input) phase written ways line (dark side after) like side
+    (power-stands side (ways_after side (gives input) phase written (renamed like.name ways)) after
     (subst (λ (ds : List Deed).
-    StandsFor (ways_after Equipment (gives input) phase written (renamed like.name ways)) (line_after line ds))
+    StandsFor (ways_after side (gives input) phase written (renamed like.name ways)) (line_after line ds))
     (sym deeds_are)
-    (step-stands Equipment (gives input) phase written (renamed like.name ways) line now of.decided like.stands
+    (step-stands side (gives input) phase written (renamed like.name ways) line now of.decided like.stands
     (record {
       decided = deeds.1;
       run = subst (IsRun line) deeds_are run;
       phase_is =
-          ap (λ (ds : List Deed). (seen_from Equipment (line_after line ds)).here.state.phase) (sym deeds_are);
+          ap (λ (ds : List Deed). (seen_from side (line_after line ds)).here.state.phase) (sym deeds_are);
       written_is = ap (way.written_in line) (sym deeds_are);
     }))))
   where
     after : Line
-    after = line_after line (deeds_by Equipment calls)
+    after = line_after line (deeds_by side calls)
 
     phase : Phase
-    phase = (seen_from Equipment after).here.state.phase
+    phase = (seen_from side after).here.state.phase
 
     written : List ℕ
-    written = way.written_in line (deeds_by Equipment calls)
+    written = way.written_in line (deeds_by side calls)
 
     deeds :
-        (deeds_by Equipment (of.decided ++ taking_calls input now) ≡ step_deeds Equipment now (gives input) of.decided)
+        (deeds_by side (of.decided ++ taking_calls input now) ≡ step_deeds side now (gives input) of.decided)
         × AreDecisions of.decided
-    deeds = step-deeds Equipment input now of.decided of.decisions
+    deeds = step-deeds side input now of.decided of.decisions
 
-    deeds_are : deeds_by Equipment calls ≡ step_deeds Equipment now (gives input) of.decided
-    deeds_are = ap (deeds_by Equipment) of.are ∙ deeds.0
+    deeds_are : deeds_by side calls ≡ step_deeds side now (gives input) of.decided
+    deeds_are = ap (deeds_by side) of.are ∙ deeds.0
 
 dark-few :
-    {C : Type 0} (input : Input C) (now : ℕ) (calls : List LineCall) (ways : Ways) (line : Line) → IsLike ways line
-    → IsRun line (deeds_by Equipment calls) → AreFew input now calls
-    → IsLike (without_power Equipment ways) (dark (line_after line (deeds_by Equipment calls)))
-dark-few input now calls ways line like run (inl none) =
-    subst (λ (cs : List LineCall). IsLike (without_power Equipment ways)
-    (dark (line_after line (deeds_by Equipment cs))))
-    (sym none) (dark-now ways line like)
-dark-few input now calls ways line like run (inr (inl of)) = dark-behind input now calls ways line like run of
-dark-few {C} input now calls ways line like run (inr (inr of)) =
-    dark-behind {C = C} Time now calls ways line like run of
+    {C : Type 0} (side : Side) (input : Input C) (now : ℕ) (calls : List LineCall) (ways : Ways) (line : Line)
+    → IsLike ways line → IsRun line (deeds_by side calls) → AreFew input now calls
+    → IsLike (without_power side ways) (dark side (line_after line (deeds_by side calls)))
+dark-few side input now calls ways line like run (inl none) =
+    subst (λ (cs : List LineCall). IsLike (without_power side ways)
+    (dark side (line_after line (deeds_by side cs))))
+    (sym none) (dark-now side ways line like)
+dark-few side input now calls ways line like run (inr (inl of)) = dark-behind side input now calls ways line like run of
+dark-few {C} side input now calls ways line like run (inr (inr of)) =
+    dark-behind {C = C} side Time now calls ways line like run of
 
 -- ---- the step
 
@@ -233,59 +233,73 @@ module _ {S C : Type 0} (did : ℕ → List Doing → S → Type 0) (takes : C �
         ∙ log_with-behind now side loss.front [] (log_of moves));
   }
 
--- of the equipment, where its power is lost
+-- where its power is lost
 module _ {S C : Type 0} (did : ℕ → List Doing → S → Type 0) (takes : C → Type 0) (first : Step S Happening)
-    (machine : Machine S C) (plans : LinePlans)
-    (law : KeepsLaw (plan_at Equipment plans) did takes (Goes first) machine) (now : ℕ) (choice : CutChoice)
+    (machine : Machine S C) (side : Side) (plans : LinePlans)
+    (law : KeepsLaw (plan_at side plans) did takes (Goes first) machine) (now : ℕ) (choice : CutChoice)
     (moves : List Move) (s : S) (input : Input C) (ways : Ways) (may : MayTake takes input)
     (keep : KeepLaws plans moves)
     (timely : AreTimely moves) (clean : HasNoSlip (new_line plans.equipment.times plans.host.times) (deeds_of moves))
-    (at : IsAt did Equipment plans moves s) (next : IsNext (seen_at Equipment plans moves).there.under_way input)
-    (like : IsLike ways (line_of_moves plans moves)) (none : slips machine Equipment now input s ways ≡ false)
+    (at : IsAt did side plans moves s) (next : IsNext (seen_at side plans moves).there.under_way input)
+    (like : IsLike ways (line_of_moves plans moves)) (none : slips machine side now input s ways ≡ false)
     (loss : Loss S) (has : Has (machine.losses s input now) loss) where
-  abbrev lost : LosesAt (plan_at Equipment plans) did (run_at Equipment plans moves).base
-      (run_at Equipment plans moves).doings input now loss.front (machine.restart (loss.left choice) now)
+  abbrev lost : LosesAt (plan_at side plans) did (run_at side plans moves).base
+      (run_at side plans moves).doings input now loss.front (machine.restart (loss.left choice) now)
   lost =
-      loses did takes first machine Equipment plans law now choice moves s input ways may keep timely clean at next like
+      loses did takes first machine side plans law now choice moves s input ways may keep timely clean at next like
       none loss has
 
   abbrev by_then : List Doing
   by_then = lost.so_far.done
 
-  there : AreDone (plan_at Equipment plans) Equipment (line_of_moves plans moves) (run_at Equipment plans moves).doings
+  there : AreDone (plan_at side plans) side (line_of_moves plans moves) (run_at side plans moves).doings
       by_then
   there =
-      are did takes first machine Equipment plans law now choice moves s input ways may keep timely clean at next like
+      are did takes first machine side plans law now choice moves s input ways may keep timely clean at next like
       none loss has
 
   pub has-fallen : (call : ℕ) (is_cut : Bool)
-      → HasFallen did machine plans now moves (stopped_at machine Equipment now call is_cut choice input s ways loss)
+      → HasFallen did machine side plans now moves (stopped_at machine side now call is_cut choice input s ways loss)
   has-fallen call is_cut = record {
     stopped =
-        has-stopped did takes first machine Equipment plans law now choice moves s input ways may keep timely clean at
+        has-stopped did takes first machine side plans law now choice moves s input ways may keep timely clean at
         next like none loss has call is_cut;
     lost = record {
       state =
-          ap (λ (l : Line). (seen_from Equipment l).here.state) (line-moves plans Equipment now by_then moves)
-          ∙ there.state ∙ ap (line_of (plan_at Equipment plans)) (sym (own-doings Equipment plans now by_then moves));
+          ap (λ (l : Line). (seen_from side l).here.state) (line-moves plans side now by_then moves)
+          ∙ there.state ∙ ap (line_of (plan_at side plans)) (sym (own-doings side plans now by_then moves));
       received =
-          ap (λ (ds : List Doing). whole_in (own_of (plan_at Equipment plans) ds))
-          (own-doings Equipment plans now by_then moves)
+          ap (λ (ds : List Doing). whole_in (own_of (plan_at side plans) ds))
+          (own-doings side plans now by_then moves)
           ∙ lost.so_far.received;
       starts =
           subst (λ (b : ℕ).
           OnStart
-          (HasRestarted (plan_at Equipment plans) did b
-          (run_at Equipment plans (moves_with Equipment now by_then moves)).doings)
-          (machine.restart (loss.left choice) now)) (sym (own-base Equipment plans now by_then moves))
+          (HasRestarted (plan_at side plans) did b
+          (run_at side plans (moves_with side now by_then moves)).doings)
+          (machine.restart (loss.left choice) now)) (sym (own-base side plans now by_then moves))
           (subst (λ (ds : List Doing).
-          OnStart (HasRestarted (plan_at Equipment plans) did (run_at Equipment plans moves).base ds)
+          OnStart (HasRestarted (plan_at side plans) did (run_at side plans moves).base ds)
           (machine.restart (loss.left choice) now))
-          (sym (own-doings Equipment plans now by_then moves)) lost.starts);
+          (sym (own-doings side plans now by_then moves)) lost.starts);
       dark =
-          subst (λ (l : Line). IsLike (without_power Equipment ways) (dark l))
-          (sym (line-moves plans Equipment now by_then moves))
-          (dark-few input now (calls_in by_then) ways (line_of_moves plans moves) like there.run
+          subst (λ (l : Line). IsLike (without_power side ways) (dark side l))
+          (sym (line-moves plans side now by_then moves))
+          (dark-few side input now (calls_in by_then) ways (line_of_moves plans moves) like there.run
           (begun input now lost.so_far.calls.later (calls_in by_then) lost.so_far.calls.whole));
     };
   }
+
+-- and where nothing was done since a whole step
+pub lost-between :
+    {S C : Type 0} (did : ℕ → List Doing → S → Type 0) (takes : C → Type 0) (first : Step S Happening)
+    (machine : Machine S C) (side : Side) (plans : LinePlans)
+    (law : KeepsLaw (plan_at side plans) did takes (Goes first) machine) (now : ℕ) (moves : List Move) (s : S)
+    (ways : Ways) → IsAt did side plans moves s → IsLike ways (line_of_moves plans moves)
+    → HasLostAll did side plans (machine.restart s now) ways moves
+lost-between did takes first machine side plans law now moves s ways at like = record {
+  state = at.state;
+  received = (law.keeps (run_at side plans moves).base (run_at side plans moves).doings s at.is).received;
+  starts = law.restarts (run_at side plans moves).base (run_at side plans moves).doings s now at.is;
+  dark = dark-now side ways (line_of_moves plans moves) like;
+}

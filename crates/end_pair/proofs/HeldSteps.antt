@@ -24,18 +24,18 @@ use Rattle.end_pair.specs.InSteps.AreSteps.{one_step}
 use Rattle.end_pair.specs.InSteps.ComeInSteps.{at_a_step, in_a_step}
 use Rattle.end_pair.specs.Laws.{AreNoNotes, IsOfMoves}
 use Rattle.end_pair.specs.Steps.{Stepped, entries_of, made, made_by, slipped, slips, stopped_at}
-use Rattle.end_pair.specs.World.{Piece, World, and_more, and_on, equipment_stepped, host_stepped, most_steps, still, turned_out, with_equipment, with_host}
+use Rattle.end_pair.specs.World.{EndAt, Piece, World, and_more, and_on, equipment_stepped, host_stepped, is_to_lose, most_steps, restart_of, still, turned_out, with_equipment, with_host}
 use Rattle.end_pair.proofs.ByteWays.{AreByteWays}
-use Rattle.end_pair.proofs.Causes.{never-on}
+use Rattle.end_pair.proofs.Causes.{early-powered, never-on, stopped-own}
 use Rattle.end_pair.proofs.Doing.{IsNext}
 use Rattle.end_pair.proofs.DoingMoves.{IsAt, other-is}
-use Rattle.end_pair.proofs.Fallen.{has-fallen, has-stopped}
+use Rattle.end_pair.proofs.Fallen.{has-fallen}
 use Rattle.end_pair.proofs.Moved.{HasFallen, HasLostAll, HasStepped, HasStopped, has-made, has-slipped}
 use Rattle.end_pair.proofs.Renamed.{IsLike}
 
 module _ {S T : Type 0}
     (did_e : ℕ → List Doing → S → Type 0) (did_h : ℕ → List Doing → T → Type 0)
-    (tool : ToolCommand → Type 0) (user : HostCommand → Type 0) (loses : Type 0)
+    (tool : ToolCommand → Type 0) (user : HostCommand → Type 0)
     (first_e : Step S Happening) (first_h : Step T Happening)
     (e : Machine S ToolCommand) (h : Machine T HostCommand) (plans : LinePlans)
     (law_e : KeepsLaw (plan_at Equipment plans) did_e tool (Goes first_e) e)
@@ -55,23 +55,33 @@ module _ {S T : Type 0}
     pub stands : IsLike world.ways (line_of_moves plans moves)
     pub bytes : AreByteWays world.ways
 
-  -- the equipment has lost its power behind these moves, and so in a step that it had begun, or was to begin, behind
-  -- those before
-  pub record Fallen (world : World S T) (moves : List Move) : Type 0 where
+  -- the end of a side, and the other one
+  abbrev pub did_at : (side : Side) → ℕ → List Doing → EndAt side S T → Type 0
+  did_at Equipment = did_e
+  did_at Host = did_h
+
+  abbrev pub IsOtherAt : Side → World S T → List Move → Type 0
+  IsOtherAt Equipment world moves = IsAt did_h Host plans moves world.host
+  IsOtherAt Host world moves = IsAt did_e Equipment plans moves world.equipment
+
+  -- an end has lost its power behind these moves, and so in a step that it had begun, or was to begin, behind those
+  -- before
+  pub record Fallen (side : Side) (world : World S T) (moves : List Move) : Type 0 where
     pub keep : KeepLaws plans moves
     pub timely : AreTimely moves
     pub clean : HasNoSlip (new_line plans.equipment.times plans.host.times) (deeds_of moves)
-    pub host : IsAt did_h Host plans moves world.host
+    pub other : IsOtherAt side world moves
     pub before : List Move
-    pub cut : IsCutBehind did_e did_h plans Equipment world.moment before moves
+    pub cut : IsCutBehind did_e did_h plans side world.moment before moves
     pub steps : AreSteps did_e did_h plans before
-    pub lost : HasLostAll did_e plans (e.restart world.equipment world.moment) world.ways moves
+    pub lost : HasLostAll (did_at side) side plans (restart_of e h side world) world.ways moves
 
   -- the entries of a piece, behind those before, are the log of some moves, and at most an entry that is no note
   pub record Good (piece : Piece S T) (before : List Entry) : Type 0 where
     pub of : IsOfMoves did_e did_h plans (piece.entries ++ before)
     pub on : piece.went ≡ answer.Went → (of.last ≡ []) × Holds piece.world of.moves
-    pub fallen : piece.went ≡ answer.PowerLost → (of.last ≡ []) × Fallen piece.world of.moves
+    pub fallen :
+        (whose : Side) → piece.went ≡ answer.PowerLost whose → (of.last ≡ []) × Fallen whose piece.world of.moves
 
   abbrev pub Keeps : (World S T → Piece S T) → Type 0
   Keeps more = (world : World S T) (moves : List Move) → Holds world moves → Good (more world) (log_of moves)
@@ -116,7 +126,7 @@ module _ {S T : Type 0}
   goes-still world moves holds = record {
     of = with_last moves world.equipment world.host [] (log_of moves) holds.made (omega arith) tt refl;
     on = λ on. (refl, holds);
-    fallen = λ lost. cc;
+    fallen = λ whose lost. cc;
   }
 
   pub good-then : (piece : Piece S T) (before : List Entry) (rest : World S T → Piece S T) → Good piece before
@@ -141,7 +151,8 @@ module _ {S T : Type 0}
       go answer.Slip is = good
       go answer.Turns is = good
       go answer.NumbersSpent is = good
-      go answer.PowerLost is = good
+      go answer.JournalFull is = good
+      go (answer.PowerLost whose) is = good
       go answer.NoMemory is = good
 
   pub keeps-then :
@@ -154,7 +165,7 @@ module _ {S T : Type 0}
   goes-out world moves holds = record {
     of = with_last moves world.equipment world.host [] (log_of moves) holds.made (omega arith) tt refl;
     on = λ on. cc;
-    fallen = λ lost. cc;
+    fallen = λ whose lost. cc;
   }
 
   -- ---- steps
@@ -162,11 +173,12 @@ module _ {S T : Type 0}
   -- a step of either end
   step-good :
       {X : Type 0} (did : ℕ → List Doing → X → Type 0) (side : Side) (step : Stepped X) (world : World S T)
-      (moves : List Move) (s : S) (t : T) (n : ℕ) (cut : Option ℕ) (left host_left : ℕ) (is_cut : Bool)
-      (choice : CutChoice)
+      (moves : List Move) (s : S) (t : T) (n : ℕ) (cut : Option (Side × ℕ)) (left host_left : ℕ)
+      (is_cut : Option Side) (choice : CutChoice)
       → Holds world moves → (is : HasStepped did side plans world.moment moves step)
       → IsAt did_e Equipment plans (moves_with side world.moment is.done moves) s
-      → IsAt did_h Host plans (moves_with side world.moment is.done moves) t → (step.went ≡ answer.PowerLost → ⊥)
+      → IsAt did_h Host plans (moves_with side world.moment is.done moves) t
+      → ((whose : Side) → step.went ≡ answer.PowerLost whose → ⊥)
       → Good
       (record {
         world =
@@ -200,7 +212,7 @@ module _ {S T : Type 0}
     };
     on = λ went. let on = is.on went in
         (on.0, record { made = made_so (is.ended went); stands = on.1; bytes = on.2 });
-    fallen = λ lost. absurd (powered lost);
+    fallen = λ whose lost. absurd (powered whose lost);
   }
     where
       now : ℕ
@@ -239,9 +251,11 @@ module _ {S T : Type 0}
 
   made-powered :
       {X C : Type 0} (machine : Machine X C) (side : Side) (now : ℕ) (input : Input C) (s : X) (ways : Ways)
-      (went : Went X Happening) → (made machine side now input s ways went).went ≡ answer.PowerLost → ⊥
-  made-powered machine side now input s ways (Goes step) is = absurd (cc)
-  made-powered machine side now input s ways (Spent step) is = absurd (cc)
+      (went : Went X Happening) (whose : Side) → (made machine side now input s ways went).went ≡ answer.PowerLost whose
+      → ⊥
+  made-powered machine side now input s ways (Goes step) whose is = absurd (cc)
+  made-powered machine side now input s ways (Spent step) whose is =
+      early-powered (machine.fills s input now) whose is
 
   -- in which its disk has stopped it
   abbrev stopped_cut :
@@ -269,72 +283,104 @@ module _ {S T : Type 0}
     is = is.entries;
   }
 
-  -- the equipment's, whether its power is lost or a run ends there
+  -- whether its end's power is lost or a run ends there
   fallen-good :
-      (step : Stepped S) (world : World S T) (moves : List Move) → Holds world moves
-      → HasFallen did_e e plans world.moment moves step → (step.went ≡ answer.Went → ⊥)
-      → Good (with_equipment e h world step) (log_of moves)
-  fallen-good step world moves holds is stops = record {
-    of = stopped_log did_e Equipment step world.moment moves is.stopped cut holds.made.steps;
+      {X : Type 0} (did : ℕ → List Doing → X → Type 0) (side : Side) (step : Stepped X) (world after : World S T)
+      (moves : List Move) → AreSteps did_e did_h plans moves → (is : HasStopped did side plans world.moment moves step)
+      → IsCutBehind did_e did_h plans side world.moment moves (moves_with side world.moment is.done moves)
+      → (step.went ≡ answer.Went → ⊥)
+      → ((whose : Side) → step.went ≡ answer.PowerLost whose
+      → Fallen whose after (moves_with side world.moment is.done moves))
+      → Good (record { world = after; entries = step.entries; went = step.went }) (log_of moves)
+  fallen-good did side step world after moves steps is cut stops fallen = record {
+    of = stopped_log did side step world.moment moves is cut steps;
     on = λ went. absurd (stops went);
-    fallen = λ went. (
-      refl,
-      record {
-        keep = is.stopped.keep;
-        timely = is.stopped.timely;
-        clean = is.stopped.no_slip;
-        host = host;
-        before = moves;
-        cut = cut;
-        steps = holds.made.steps;
-        lost = is.lost;
-      },
-    );
+    fallen = λ whose lost. (refl, fallen whose lost);
   }
+
+  equipment-fallen :
+      (step : Stepped S) (world : World S T) (moves : List Move) → Holds world moves
+      → HasFallen did_e e Equipment plans world.moment moves step → (step.went ≡ answer.Went → ⊥)
+      → ((whose : Side) → step.went ≡ answer.PowerLost whose → whose ≡ Equipment)
+      → Good (with_equipment e h world step) (log_of moves)
+  equipment-fallen step world moves holds is stops own =
+      fallen-good did_e Equipment step world (with_equipment e h world step).world moves holds.made.steps is.stopped cut
+      stops fallen
     where
       now : ℕ
       now = world.moment
 
-      host : IsAt did_h Host plans (moves_with Equipment now is.stopped.done moves) world.host
+      by_then : List Move
+      by_then = moves_with Equipment now is.stopped.done moves
+
+      host : IsAt did_h Host plans by_then world.host
       host = other-is did_h Equipment plans now is.stopped.done moves world.host holds.made.host
 
-      cut : IsCutBehind did_e did_h plans Equipment now moves (moves_with Equipment now is.stopped.done moves)
+      cut : IsCutBehind did_e did_h plans Equipment now moves by_then
       cut =
           stopped_cut did_e Equipment step now moves is.stopped
           (record {
             state_of_equipment = is.stopped.next;
             state_of_host = world.host;
             equipment_did = is.stopped.could;
-            host_did =
-                (other-is did_h Equipment plans now is.stopped.later (moves_with Equipment now is.stopped.done moves)
-                world.host host).is;
+            host_did = (other-is did_h Equipment plans now is.stopped.later by_then world.host host).is;
           })
 
-  -- the host's
-  stopped-good :
+      fallen : (whose : Side) → step.went ≡ answer.PowerLost whose
+          → Fallen whose (with_equipment e h world step).world by_then
+      fallen Equipment lost = record {
+        keep = is.stopped.keep;
+        timely = is.stopped.timely;
+        clean = is.stopped.no_slip;
+        other = host;
+        before = moves;
+        cut = cut;
+        steps = holds.made.steps;
+        lost = is.lost;
+      }
+      fallen Host lost = let same = own Host lost in absurd (cc)
+
+  host-fallen :
       (step : Stepped T) (world : World S T) (moves : List Move) → Holds world moves
-      → HasStopped did_h Host plans world.moment moves step → step.went ≡ answer.Turns
+      → HasFallen did_h h Host plans world.moment moves step → (step.went ≡ answer.Went → ⊥)
+      → ((whose : Side) → step.went ≡ answer.PowerLost whose → whose ≡ Host)
       → Good (with_host e h world step) (log_of moves)
-  stopped-good step world moves holds is turns = record {
-    of = stopped_log did_h Host step world.moment moves is cut holds.made.steps;
-    on = λ went. let same = sym went ∙ turns in cc;
-    fallen = λ lost. let same = sym lost ∙ turns in cc;
-  }
+  host-fallen step world moves holds is stops own =
+      fallen-good did_h Host step world (with_host e h world step).world moves holds.made.steps is.stopped cut stops
+      fallen
     where
       now : ℕ
       now = world.moment
 
-      cut : IsCutBehind did_e did_h plans Host now moves (moves_with Host now is.done moves)
+      by_then : List Move
+      by_then = moves_with Host now is.stopped.done moves
+
+      equipment : IsAt did_e Equipment plans by_then world.equipment
+      equipment = other-is did_e Host plans now is.stopped.done moves world.equipment holds.made.equipment
+
+      cut : IsCutBehind did_e did_h plans Host now moves by_then
       cut =
-          stopped_cut did_h Host step now moves is
+          stopped_cut did_h Host step now moves is.stopped
           (record {
             state_of_equipment = world.equipment;
-            state_of_host = is.next;
-            equipment_did =
-                (other-is did_e Host plans now is.later (moves_with Host now is.done moves) world.equipment
-                (other-is did_e Host plans now is.done moves world.equipment holds.made.equipment)).is;
-            host_did = is.could;
+            state_of_host = is.stopped.next;
+            equipment_did = (other-is did_e Host plans now is.stopped.later by_then world.equipment equipment).is;
+            host_did = is.stopped.could;
           })
+
+      fallen : (whose : Side) → step.went ≡ answer.PowerLost whose
+          → Fallen whose (with_host e h world step).world by_then
+      fallen Host lost = record {
+        keep = is.stopped.keep;
+        timely = is.stopped.timely;
+        clean = is.stopped.no_slip;
+        other = equipment;
+        before = moves;
+        cut = cut;
+        steps = holds.made.steps;
+        lost = is.lost;
+      }
+      fallen Equipment lost = let same = own Equipment lost in absurd (cc)
 
   some-same : {X : Type 0} (y x : X) → Some y ≡ Some x → x ≡ y
   some-same y x is = cc
@@ -353,12 +399,14 @@ module _ {S T : Type 0}
   abbrev tool_step : Input ToolCommand → World S T → Bool → Option (Loss S) → Stepped S
   tool_step input world slip lost =
       if slip then slipped Equipment world.moment world.equipment world.ways
-      else made_by e Equipment world.moment world.left world.is_cut world.choice input world.equipment world.ways lost
+      else made_by e Equipment world.moment world.left (is_to_lose Equipment world.is_cut) world.choice input
+      world.equipment world.ways lost
 
   abbrev user_step : Input HostCommand → World S T → Bool → Option (Loss T) → Stepped T
   user_step input world slip lost =
       if slip then slipped Host world.moment world.host world.ways
-      else made_by h Host world.moment world.host_left false world.choice input world.host world.ways lost
+      else made_by h Host world.moment world.host_left (is_to_lose Host world.is_cut) world.choice input world.host
+      world.ways lost
 
   pub equipment-keeps :
       (input : Input ToolCommand) → MayTake tool input → (world : World S T) (moves : List Move) → Holds world moves
@@ -368,8 +416,12 @@ module _ {S T : Type 0}
       by_turn (world.steps == most_steps) (slips e Equipment world.moment input world.equipment world.ways)
       (call_of world.left (e.losses world.equipment input world.moment)) refl refl
     where
+      is_cut : Bool
+      is_cut = is_to_lose Equipment world.is_cut
+
       whole : (step : Stepped S) → (is : HasStepped did_e Equipment plans world.moment moves step)
-          → (step.went ≡ answer.PowerLost → ⊥) → Good (with_equipment e h world step) (log_of moves)
+          → ((whose : Side) → step.went ≡ answer.PowerLost whose → ⊥)
+          → Good (with_equipment e h world step) (log_of moves)
       whole step is powered =
           step-good did_e Equipment step world moves step.end world.host _ _ _ _ _ _ holds is is.are.at
           (other-is did_h Equipment plans world.moment is.done moves world.host holds.made.host) powered
@@ -383,7 +435,7 @@ module _ {S T : Type 0}
       by_turn false true lost slip_is lost_is =
           whole (slipped Equipment world.moment world.equipment world.ways)
           (has-slipped did_e tool first_e e Equipment plans law_e world.moment moves world.equipment world.ways
-          holds.made.keep holds.made.timely holds.made.clean holds.made.equipment) (λ is. cc)
+          holds.made.keep holds.made.timely holds.made.clean holds.made.equipment) (λ whose is. cc)
       by_turn false false None slip_is lost_is =
           whole
           (made e Equipment world.moment input world.equipment world.ways (e.act world.equipment input world.moment))
@@ -392,13 +444,14 @@ module _ {S T : Type 0}
           (made-powered e Equipment world.moment input world.equipment world.ways
           (e.act world.equipment input world.moment))
       by_turn false false (Some loss) slip_is lost_is =
-          fallen-good
-          (stopped_at e Equipment world.moment world.left world.is_cut world.choice input world.equipment world.ways
-          loss) world moves holds
-          (has-fallen did_e tool first_e e plans law_e world.moment world.choice moves world.equipment input world.ways
-          may holds.made.keep holds.made.timely holds.made.clean holds.made.equipment next holds.stands slip_is loss
-          (has-loss world.left (e.losses world.equipment input world.moment) loss lost_is) world.left world.is_cut)
-          (never-on world.is_cut)
+          equipment-fallen
+          (stopped_at e Equipment world.moment world.left is_cut world.choice input world.equipment world.ways loss)
+          world moves holds
+          (has-fallen did_e tool first_e e Equipment plans law_e world.moment world.choice moves world.equipment input
+          world.ways may holds.made.keep holds.made.timely holds.made.clean holds.made.equipment next holds.stands
+          slip_is loss (has-loss world.left (e.losses world.equipment input world.moment) loss lost_is) world.left
+          is_cut)
+          (never-on Equipment is_cut) (stopped-own Equipment is_cut)
 
   pub host-keeps :
       (input : Input HostCommand) → MayTake user input → (world : World S T) (moves : List Move) → Holds world moves
@@ -408,8 +461,11 @@ module _ {S T : Type 0}
       by_turn (world.steps == most_steps) (slips h Host world.moment input world.host world.ways)
       (call_of world.host_left (h.losses world.host input world.moment)) refl refl
     where
+      is_cut : Bool
+      is_cut = is_to_lose Host world.is_cut
+
       whole : (step : Stepped T) → (is : HasStepped did_h Host plans world.moment moves step)
-          → (step.went ≡ answer.PowerLost → ⊥) → Good (with_host e h world step) (log_of moves)
+          → ((whose : Side) → step.went ≡ answer.PowerLost whose → ⊥) → Good (with_host e h world step) (log_of moves)
       whole step is powered =
           step-good did_h Host step world moves world.equipment step.end _ _ _ _ _ _ holds is
           (other-is did_e Host plans world.moment is.done moves world.equipment holds.made.equipment) is.are.at powered
@@ -423,16 +479,17 @@ module _ {S T : Type 0}
       by_turn false true lost slip_is lost_is =
           whole (slipped Host world.moment world.host world.ways)
           (has-slipped did_h user first_h h Host plans law_h world.moment moves world.host world.ways holds.made.keep
-          holds.made.timely holds.made.clean holds.made.host) (λ is. cc)
+          holds.made.timely holds.made.clean holds.made.host) (λ whose is. cc)
       by_turn false false None slip_is lost_is =
           whole (made h Host world.moment input world.host world.ways (h.act world.host input world.moment))
           (has-made did_h user first_h h Host plans law_h world.moment moves world.host input world.ways may
           holds.made.keep holds.made.timely holds.made.clean holds.made.host next holds.stands holds.bytes slip_is)
           (made-powered h Host world.moment input world.host world.ways (h.act world.host input world.moment))
       by_turn false false (Some loss) slip_is lost_is =
-          stopped-good
-          (stopped_at h Host world.moment world.host_left false world.choice input world.host world.ways loss) world
+          host-fallen
+          (stopped_at h Host world.moment world.host_left is_cut world.choice input world.host world.ways loss) world
           moves holds
-          (has-stopped did_h user first_h h Host plans law_h world.moment world.choice moves world.host input world.ways
+          (has-fallen did_h user first_h h Host plans law_h world.moment world.choice moves world.host input world.ways
           may holds.made.keep holds.made.timely holds.made.clean holds.made.host next holds.stands slip_is loss
-          (has-loss world.host_left (h.losses world.host input world.moment) loss lost_is) world.host_left false) refl
+          (has-loss world.host_left (h.losses world.host input world.moment) loss lost_is) world.host_left is_cut)
+          (never-on Host is_cut) (stopped-own Host is_cut)

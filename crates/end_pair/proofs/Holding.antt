@@ -1,6 +1,7 @@
 -- What both ends have done, as moves, at each event and in the whole run.
 use Rattle.std.specs.List.{All}
 use Rattle.std.proofs.Common.{◌≡◌, ◌<◌, ◌≤◌, zero, suc, ℕ, Bool, true, false, List, [], ◌∷◌, ◌++◌, length, Option, Some, None, if◌then◌else◌, refl, sym, ap, subst, ◌∙◌, append_assoc, append-nil, arith}
+use Rattle.disk_base.specs.declared.cut.CutChoice.{CutChoice}
 use Rattle.gl_base.specs.declared.side.Side.{Side}
 use Rattle.gl_base.specs.declared.side.Side.TheVariants.{Equipment, Host}
 use Rattle.line_order.specs.Line.{Line, seen_from}
@@ -13,17 +14,18 @@ use Rattle.line_way.specs.Ways.{Ways, characters_of, is_under_way, next_byte}
 use Rattle.line_end.specs.State.{LineState, new_state}
 use Rattle.line_end.specs.declared.plan.Times.{Times}
 use Rattle.message_flow.specs.declared.message.Message.{Message}
-use Rattle.trace_log.specs.Names.{Spooled}
 use Rattle.message_end.specs.Core.{Step, Went}
 use Rattle.message_end.specs.Core.Went.{Goes, Spent}
 use Rattle.message_end.specs.Doings.{Doing, IsInTurn, line_of, own_of}
 use Rattle.message_end.specs.Doings.Doing.{Says}
 use Rattle.message_end.specs.Ends.{HasRestarted, Input, KeepsLaw, Machine, MayTake, OnStart}
 use Rattle.message_end.specs.Ends.Input.{Char, Command, Time}
-use Rattle.message_end.specs.Log.{log_of, start_of}
-use Rattle.message_end.specs.Moves.{IsNextByte, KeepLaws, Kind, LinePlans, Move, Run, line_of_moves, plan_at, run_at, seen_at}
+use Rattle.message_end.specs.Log.{log_of}
+use Rattle.message_end.specs.Moves.{IsHigher, IsNextByte, KeepLaws, Kind, LinePlans, Move, Run, line_of_moves, plan_at, run_at, seen_at}
 use Rattle.message_end.specs.Moves.Kind.{Added, Changed, Did, Lost, Started}
 use Rattle.message_end.specs.Own.{Has, drawn_in}
+use Rattle.message_end.specs.Plan.{EndPlan}
+use Rattle.message_end.specs.Starts.{IsStartOf}
 use Rattle.trace_log.specs.Laws.{log_with}
 use Rattle.trace_log.specs.Log.{Entry, Happening}
 use Rattle.trace_log.specs.Log.Happening.{Power}
@@ -38,75 +40,82 @@ use Rattle.end_pair.specs.InSteps.ComeInSteps.{without_power}
 use Rattle.end_pair.specs.Laws.{AreNoNotes, HasBytes, IsOfMoves}
 use Rattle.end_pair.specs.Run.{piece_of}
 use Rattle.end_pair.specs.Steps.{entries_of}
-use Rattle.end_pair.specs.World.{Piece, World, added_to, after_event, after_events, again, and_more, and_on, armed, at_start, begun, both_stepped, changed_at, darkened, ended_by, equipment_stepped, given, given_next, given_times, happened, host_stepped, later, lost, lost_from, met, settled, settled_times, started_anew, still, way_to, without}
+use Rattle.end_pair.specs.World.{EndAt, Piece, World, added_to, after_event, after_events, again, and_more, and_on, armed, at_start, begun, both_stepped, changed_at, darkened, ended_by, equipment_stepped, given, given_next, given_times, happened, host_stepped, later, lost, lost_from, met, planned, restart_of, settled, settled_times, started_anew, still, timed, way_to, with_started, without}
 use Rattle.end_pair.proofs.ByteWays.{AreByteCharacters, AreByteWays, bytes-to, bytes-with, dropped, with-byte}
 use Rattle.end_pair.proofs.Doing.{IsNext}
 use Rattle.end_pair.proofs.DoingMoves.{IsAt}
 use Rattle.end_pair.proofs.LineDeeds.{lost-more, lost-none, new-stands}
 use Rattle.end_pair.proofs.EndedSteps.{cut-at-once}
-use Rattle.end_pair.proofs.Fallen.{dark-now}
+use Rattle.end_pair.proofs.Fallen.{lost-between}
 use Rattle.end_pair.proofs.HeldSteps as held
+use Rattle.end_pair.proofs.Moved.{HasLostAll}
 use Rattle.message_end.proofs.LineKept.{side-kept, times-kept}
 use Rattle.end_pair.proofs.Renamed.{IsLike, like-change, like-lost, like-noise, renamed_all}
 
 module _ {S T : Type 0}
     (did_e : ℕ → List Doing → S → Type 0) (did_h : ℕ → List Doing → T → Type 0)
-    (tool : ToolCommand → Type 0) (user : HostCommand → Type 0) (loses : Type 0)
+    (tool : ToolCommand → Type 0) (user : HostCommand → Type 0) (loses host_loses : Type 0)
     (first_e : Step S Happening) (first_h : Step T Happening)
     (e : Machine S ToolCommand) (h : Machine T HostCommand) (plans : LinePlans)
     (law_e : KeepsLaw (plan_at Equipment plans) did_e tool (Goes first_e) e)
     (law_h : KeepsLaw (plan_at Host plans) did_h user (Goes first_h) h) where
   -- the records and lemmas of `HeldSteps`, of these ends
   abbrev AreMade : List Move → S → T → Type 0
-  AreMade = held.AreMade did_e did_h tool user loses first_e first_h e h plans law_e law_h
+  AreMade = held.AreMade did_e did_h tool user first_e first_h e h plans law_e law_h
 
   abbrev Holds : World S T → List Move → Type 0
-  Holds = held.Holds did_e did_h tool user loses first_e first_h e h plans law_e law_h
+  Holds = held.Holds did_e did_h tool user first_e first_h e h plans law_e law_h
 
-  abbrev Fallen : World S T → List Move → Type 0
-  Fallen = held.Fallen did_e did_h tool user loses first_e first_h e h plans law_e law_h
+  abbrev Fallen : Side → World S T → List Move → Type 0
+  Fallen = held.Fallen did_e did_h tool user first_e first_h e h plans law_e law_h
+
+  abbrev did_at : (side : Side) → ℕ → List Doing → EndAt side S T → Type 0
+  did_at = held.did_at did_e did_h tool user first_e first_h e h plans law_e law_h
+
+  abbrev IsOtherAt : Side → World S T → List Move → Type 0
+  IsOtherAt = held.IsOtherAt did_e did_h tool user first_e first_h e h plans law_e law_h
 
   abbrev pub Good : Piece S T → List Entry → Type 0
-  Good = held.Good did_e did_h tool user loses first_e first_h e h plans law_e law_h
+  Good = held.Good did_e did_h tool user first_e first_h e h plans law_e law_h
 
   abbrev Keeps : (World S T → Piece S T) → Type 0
-  Keeps = held.Keeps did_e did_h tool user loses first_e first_h e h plans law_e law_h
+  Keeps = held.Keeps did_e did_h tool user first_e first_h e h plans law_e law_h
 
   abbrev at-states : (moves : List Move) (s : S) (t : T) → IsAt did_e Equipment plans moves s
       → IsAt did_h Host plans moves t → AreAtStates did_e did_h plans moves
-  at-states = held.at-states did_e did_h tool user loses first_e first_h e h plans law_e law_h
+  at-states = held.at-states did_e did_h tool user first_e first_h e h plans law_e law_h
 
   abbrev with_last :
       (moves : List Move) (s : S) (t : T) (last log : List Entry) → AreMade moves s t → length last ≤ 1
       → AreNoNotes last → log ≡ last ++ log_of moves → IsOfMoves did_e did_h plans log
-  with_last = held.with_last did_e did_h tool user loses first_e first_h e h plans law_e law_h
+  with_last = held.with_last did_e did_h tool user first_e first_h e h plans law_e law_h
 
   abbrev same_moves :
       (log other : List Entry) → other ≡ log → IsOfMoves did_e did_h plans log → IsOfMoves did_e did_h plans other
-  same_moves = held.same_moves did_e did_h tool user loses first_e first_h e h plans law_e law_h
+  same_moves = held.same_moves did_e did_h tool user first_e first_h e h plans law_e law_h
 
   goes-still : Keeps still
-  goes-still = held.goes-still did_e did_h tool user loses first_e first_h e h plans law_e law_h
+  goes-still = held.goes-still did_e did_h tool user first_e first_h e h plans law_e law_h
 
   good-then : (piece : Piece S T) (before : List Entry) (rest : World S T → Piece S T) → Good piece before → Keeps rest
       → Good (and_more piece rest) before
-  good-then = held.good-then did_e did_h tool user loses first_e first_h e h plans law_e law_h
+  good-then = held.good-then did_e did_h tool user first_e first_h e h plans law_e law_h
 
   keeps-then :
       (first rest : World S T → Piece S T) → Keeps first → Keeps rest → Keeps (λ world. and_more (first world) rest)
-  keeps-then = held.keeps-then did_e did_h tool user loses first_e first_h e h plans law_e law_h
+  keeps-then = held.keeps-then did_e did_h tool user first_e first_h e h plans law_e law_h
 
   equipment-keeps :
       (input : Input ToolCommand) → MayTake tool input → (world : World S T) (moves : List Move) → Holds world moves
       → IsNext (seen_at Equipment plans moves).there.under_way input
       → Good (equipment_stepped e h input world) (log_of moves)
-  equipment-keeps = held.equipment-keeps did_e did_h tool user loses first_e first_h e h plans law_e law_h
+  equipment-keeps = held.equipment-keeps did_e did_h tool user first_e first_h e h plans law_e law_h
 
   host-keeps :
       (input : Input HostCommand) → MayTake user input → (world : World S T) (moves : List Move) → Holds world moves
       → IsNext (seen_at Host plans moves).there.under_way input
       → Good (host_stepped e h input world) (log_of moves)
-  host-keeps = held.host-keeps did_e did_h tool user loses first_e first_h e h plans law_e law_h
+  host-keeps = held.host-keeps did_e did_h tool user first_e first_h e h plans law_e law_h
 
   -- ---- characters
 
@@ -168,7 +177,7 @@ module _ {S T : Type 0}
       (side : Side) (kind : Kind) (now : ℕ) (moves : List Move) (s : S) (t : T) → IsFate kind → AreMade moves s t
       → AreMade (record { side = side; moment = now; kind = kind } ∷ moves) s t
   fate-made side (Did doing) now moves s t is made = absurd is
-  fate-made side (Started found base) now moves s t is made = absurd is
+  fate-made side (Started note base) now moves s t is made = absurd is
   fate-made Equipment kind now moves s t is made = record {
     keep = (tt, made.keep);
     timely = (tt, made.timely);
@@ -234,12 +243,12 @@ module _ {S T : Type 0}
   -- ---- the power goes
 
   -- at the end of what went on
-  goes-dark : (world : World S T) (moves : List Move) → Holds world moves → Fallen world moves
-  goes-dark world moves holds = record {
+  goes-dark : (side : Side) (world : World S T) (moves : List Move) → Holds world moves → Fallen side world moves
+  goes-dark side world moves holds = record {
     keep = holds.made.keep;
     timely = holds.made.timely;
     clean = holds.made.clean;
-    host = holds.made.host;
+    other = other side;
     before = moves;
     cut = record {
       done = [];
@@ -249,31 +258,33 @@ module _ {S T : Type 0}
       could = at-states moves world.equipment world.host holds.made.equipment holds.made.host;
     };
     steps = holds.made.steps;
-    lost = record {
-      state = holds.made.equipment.state;
-      received = (law_e.keeps base doings world.equipment holds.made.equipment.is).received;
-      starts = law_e.restarts base doings world.equipment world.moment holds.made.equipment.is;
-      dark = dark-now world.ways (line_of_moves plans moves) holds.stands;
-    };
+    lost = lost_now side;
   }
     where
-      base : ℕ
-      base = (run_at Equipment plans moves).base
+      other : (side : Side) → IsOtherAt side world moves
+      other Equipment = holds.made.host
+      other Host = holds.made.equipment
 
-      doings : List Doing
-      doings = (run_at Equipment plans moves).doings
+      lost_now : (side : Side)
+          → HasLostAll (did_at side) side plans (restart_of e h side world) world.ways moves
+      lost_now Equipment =
+          lost-between did_e tool first_e e Equipment plans law_e world.moment moves world.equipment world.ways
+          holds.made.equipment holds.stands
+      lost_now Host =
+          lost-between did_h user first_h h Host plans law_h world.moment moves world.host world.ways holds.made.host
+          holds.stands
 
   -- that is noted
-  abbrev with_power : ℕ → List Move → List Move
-  with_power now moves = power_at now ∷ moves
+  abbrev with_power : Side → ℕ → List Move → List Move
+  with_power side now moves = power_at side now ∷ moves
 
   -- and it starts anew
-  abbrev with_start : ℕ → List (ℕ × Spooled) → ℕ → List Move → List Move
-  with_start now found base moves = started_at Equipment now found base ∷ with_power now moves
+  abbrev with_start : Side → ℕ → Happening → ℕ → List Move → List Move
+  with_start side now note base moves = started_at side now note base ∷ with_power side now moves
 
-  keep-power : (world : World S T) (moves : List Move) (now : ℕ) → Fallen world moves
-      → KeepLaws plans (with_power now moves)
-  keep-power world moves now fallen = (
+  keep-power : (side : Side) (world : World S T) (moves : List Move) (now : ℕ) → Fallen side world moves
+      → KeepLaws plans (with_power side now moves)
+  keep-power side world moves now fallen = (
     (
       (subst (λ (m : Option Message). IsInTurn m (Says Power)) (sym fallen.lost.received) tt, tt),
       tt,
@@ -282,60 +293,111 @@ module _ {S T : Type 0}
   )
 
   -- the state of its line then
-  fresh-state : (doings : List Doing) (s : LineState) → s ≡ line_of (plan_at Equipment plans) doings
-      → new_state s.side s.times ≡ new_state Equipment plans.equipment.times
-  fresh-state doings s is =
+  fresh-state : (plan : EndPlan) (doings : List Doing) (s : LineState) → s ≡ line_of plan doings
+      → new_state s.side s.times ≡ line_of plan []
+  fresh-state plan doings s is =
       ap (λ (l : LineState). new_state l.side l.times) is
-      ∙ ap (λ (side : Side). new_state side (line_of (plan_at Equipment plans) doings).times)
-      (side-kept (plan_at Equipment plans) doings)
-      ∙ ap (λ (times : Times). new_state Equipment times) (times-kept (plan_at Equipment plans) doings)
+      ∙ ap (λ (side : Side). new_state side (line_of plan doings).times) (side-kept plan doings)
+      ∙ ap (λ (times : Times). new_state plan.side times) (times-kept plan doings)
 
-  again-keeps : (world : World S T) (moves : List Move) → Fallen world moves → Good (again e h world) (log_of moves)
-  again-keeps world moves fallen = go (e.restart world.equipment world.moment) fallen.lost.starts
+  -- both ends then
+  record AreStarted (side : Side) (world : World S T) (moves : List Move) : Type 0 where
+    equipment : IsAt did_e Equipment plans moves world.equipment
+    host : IsAt did_h Host plans moves world.host
+    bytes : AreByteWays world.ways
+
+  are-started :
+      (side : Side) (world : World S T) (moves : List Move) (note : Happening) (base : ℕ) (end : EndAt side S T)
+      → Fallen side world moves → did_at side base [] end
+      → AreStarted side (with_started e h side end (darkened side world))
+      (with_start side world.moment note base moves)
+  are-started Equipment world moves note base end fallen is = record {
+    equipment = record {
+      is = is;
+      state =
+          fresh-state (plan_at Equipment plans) (run_at Equipment plans moves).doings
+          (seen_at Equipment plans moves).here.state fallen.lost.state;
+    };
+    host = record { is = fallen.other.is; state = fallen.other.state };
+    bytes = (tt, tt);
+  }
+  are-started Host world moves note base end fallen is = record {
+    equipment = record { is = fallen.other.is; state = fallen.other.state };
+    host = record {
+      is = is;
+      state =
+          fresh-state (plan_at Host plans) (run_at Host plans moves).doings (seen_at Host plans moves).here.state
+          fallen.lost.state;
+    };
+    bytes = (tt, tt);
+  }
+
+  -- and its numbers lie above all that were drawn before
+  is-higher :
+      (side : Side) (moves : List Move) (now base : ℕ) → (run_at side plans moves).base ≤ base
+      → ((drawn : ℕ) → Has (drawn_in (own_of (plan_at side plans) (run_at side plans moves).doings)) drawn
+      → drawn < base)
+      → IsHigher (plan_at side plans) (run_at side plans (with_power side now moves)) base
+  is-higher Equipment moves now base least above = record { least = least; above = above }
+  is-higher Host moves now base least above = record { least = least; above = above }
+
+  plan-side : (side : Side) → (plan_at side plans).side ≡ side
+  plan-side Equipment = refl
+  plan-side Host = refl
+
+  again-keeps : (side : Side) (world : World S T) (moves : List Move) → Fallen side world moves
+      → Good (again e h side world) (log_of moves)
+  again-keeps side world moves fallen = go (restart_of e h side world) fallen.lost.starts
     where
       now : ℕ
       now = world.moment
 
       run : Run
-      run = run_at Equipment plans moves
+      run = run_at side plans moves
 
-      go : (went : Went S Happening)
-          → OnStart (HasRestarted (plan_at Equipment plans) did_e run.base run.doings) went
-          → Good (started_anew e h (darkened world) went) (log_of moves)
+      go : (went : Went (EndAt side S T) Happening)
+          → OnStart (HasRestarted (plan_at side plans) (did_at side) run.base run.doings) went
+          → Good (started_anew e h side (darkened side world) went) (log_of moves)
       go (Spent step) none = record {
         of = record {
-          moves = with_power now moves;
-          keep = keep-power world moves now fallen;
+          moves = with_power side now moves;
+          keep = keep-power side world moves now fallen;
           timely = (tt, fallen.timely);
           no_slip = fallen.clean;
-          steps = without_power moves fallen.before now refl fallen.cut fallen.steps;
+          steps = without_power moves fallen.before side now refl fallen.cut fallen.steps;
           last = [];
           at_most_one = omega arith;
           no_notes = tt;
-          is =
-              ap (λ (notes : List Happening). entries_of Equipment now (Power ∷ notes) ++ log_of moves) none;
+          is = ap (λ (notes : List Happening). entries_of side now (Power ∷ notes) ++ log_of moves) none;
         };
         on = λ on. cc;
-        fallen = λ lost. cc;
+        fallen = λ whose lost. cc;
       }
       go (Goes step) starts = record {
-        of = with_last all step.next world.host [] (entries_of Equipment now (Power ∷ step.notes) ++ log_of moves)
-            made_so
-            (omega arith) tt log;
-        on = λ on. (refl, record { made = made_so; stands = fallen.lost.dark; bytes = (tt, tt) });
-        fallen = λ lost. cc;
+        of =
+            with_last all started.equipment started.host []
+            (entries_of side now (Power ∷ step.notes) ++ log_of moves) made_so (omega arith) tt log;
+        on = λ on. (refl, record { made = made_so; stands = fallen.lost.dark; bytes = at.bytes });
+        fallen = λ whose lost. cc;
       }
         where
-          found : List (ℕ × Spooled)
-          found = starts.started.found
+          note : Happening
+          note = starts.started.note
 
           base : ℕ
           base = starts.started.base
 
           all : List Move
-          all = with_start now found base moves
+          all = with_start side now note base moves
 
-          above : (drawn : ℕ) → Has (drawn_in (own_of (plan_at Equipment plans) run.doings)) drawn → drawn < base
+          starts_so : IsStartOf side note base
+          starts_so =
+              subst (λ (which : Side). IsStartOf which note base) (plan-side side) starts.started.of_side
+
+          started : World S T
+          started = with_started e h side step.next (darkened side world)
+
+          above : (drawn : ℕ) → Has (drawn_in (own_of (plan_at side plans) run.doings)) drawn → drawn < base
           above drawn has =
               let low = starts.above drawn has in
               let least = starts.started.above in
@@ -347,43 +409,46 @@ module _ {S T : Type 0}
               let least = starts.started.above in
               omega (arith, low, least)
 
-          equipment : IsAt did_e Equipment plans all step.next
-          equipment = record {
-            is = starts.started.is;
-            state = fresh-state run.doings (seen_at Equipment plans moves).here.state fallen.lost.state;
-          }
+          at : AreStarted side started all
+          at = are-started side world moves note base step.next fallen starts.started.is
 
-          host : IsAt did_h Host plans all world.host
-          host = record { is = fallen.host.is; state = fallen.host.state }
-
-          made_so : AreMade all step.next world.host
+          made_so : AreMade all started.equipment started.host
           made_so = record {
-            keep = (record { least = least; above = above }, keep-power world moves now fallen);
+            keep = (
+              (starts.started.of_side, is-higher side moves now base least above),
+              keep-power side world moves now fallen,
+            );
             timely = (tt, (tt, fallen.timely));
             clean = (refl, fallen.clean);
-            equipment = equipment;
-            host = host;
+            equipment = at.equipment;
+            host = at.host;
             steps =
-                starts_anew all moves fallen.before now found base refl fallen.cut
-                (at-states all step.next world.host equipment host) fallen.steps;
+                starts_anew all moves fallen.before side now note base refl starts_so fallen.cut
+                (at-states all started.equipment started.host at.equipment at.host) fallen.steps;
           }
 
-          log : entries_of Equipment now (Power ∷ step.notes) ++ log_of moves ≡ log_of all
+          log : entries_of side now (Power ∷ step.notes) ++ log_of moves ≡ log_of all
           log =
-              ap (λ (notes : List Happening). entries_of Equipment now (Power ∷ notes) ++ log_of moves)
+              ap (λ (notes : List Happening). entries_of side now (Power ∷ notes) ++ log_of moves)
               starts.started.notes
 
-  without-keeps : (world : World S T) (moves : List Move) → Fallen world moves → Good (without e h world) (log_of moves)
-  without-keeps world moves fallen =
-      good-then (again e h world) (log_of moves) (equipment_stepped e h Time) (again-keeps world moves fallen)
-      (λ world moves holds. equipment-keeps Time tt world moves holds tt)
+  timed-keeps : (side : Side) → Keeps (timed e h side)
+  timed-keeps Equipment world moves holds = equipment-keeps Time tt world moves holds tt
+  timed-keeps Host world moves holds = host-keeps Time tt world moves holds tt
+
+  without-keeps : (side : Side) (world : World S T) (moves : List Move) → Fallen side world moves
+      → Good (without e h side world) (log_of moves)
+  without-keeps side world moves fallen =
+      good-then (again e h side world) (log_of moves) (timed e h side) (again-keeps side world moves fallen)
+      (timed-keeps side)
 
   -- behind a piece that is dark then
-  good-without : (piece : Piece S T) (before : List Entry) (good : Good piece before)
-      → (good.of.last ≡ []) × Fallen piece.world good.of.moves → Good (and_on answer.Went piece (without e h)) before
-  good-without piece before good at =
-      let next = without-keeps piece.world good.of.moves at.1 in
-      let more = (without e h piece.world).entries in
+  good-without : (side : Side) (piece : Piece S T) (before : List Entry) (good : Good piece before)
+      → (good.of.last ≡ []) × Fallen side piece.world good.of.moves
+      → Good (and_on answer.Went piece (without e h side)) before
+  good-without side piece before good at =
+      let next = without-keeps side piece.world good.of.moves at.1 in
+      let more = (without e h side piece.world).entries in
       record {
         of =
             same_moves (more ++ log_of good.of.moves) ((more ++ piece.entries) ++ before)
@@ -394,20 +459,21 @@ module _ {S T : Type 0}
         fallen = next.fallen;
       }
 
-  ended-good : (is_cut : Bool) (piece : Piece S T) (before : List Entry) → Good piece before
-      → Good (ended_by e h is_cut piece.went piece) before
-  ended-good is_cut piece before good = go is_cut piece.went refl
+  ended-good : (cut : Option Side) (piece : Piece S T) (before : List Entry) → Good piece before
+      → Good (ended_by e h cut piece.went piece) before
+  ended-good cut piece before good = go cut piece.went refl
     where
-      go : (is_cut : Bool) (went : WorldStep) → piece.went ≡ went → Good (ended_by e h is_cut went piece) before
-      go is_cut answer.PowerLost is = good-without piece before good (good.fallen is)
-      go true answer.Went is =
+      go : (cut : Option Side) (went : WorldStep) → piece.went ≡ went → Good (ended_by e h cut went piece) before
+      go cut (answer.PowerLost whose) is = good-without whose piece before good (good.fallen whose is)
+      go (Some side) answer.Went is =
           let at = good.on is in
-          good-without piece before good (at.0, goes-dark piece.world good.of.moves at.1)
-      go false answer.Went is = good
-      go is_cut answer.Slip is = good
-      go is_cut answer.Turns is = good
-      go is_cut answer.NumbersSpent is = good
-      go is_cut answer.NoMemory is = good
+          good-without side piece before good (at.0, goes-dark side piece.world good.of.moves at.1)
+      go None answer.Went is = good
+      go cut answer.Slip is = good
+      go cut answer.Turns is = good
+      go cut answer.NumbersSpent is = good
+      go cut answer.JournalFull is = good
+      go cut answer.NoMemory is = good
 
   -- ---- events
 
@@ -422,11 +488,19 @@ module _ {S T : Type 0}
     bytes = subst AreByteWays ways holds.bytes;
   }
 
-  armed-keeps : (call : ℕ) → Keeps (armed call)
-  armed-keeps call world moves holds =
-      goes-still (armed call world).world moves (same-holds world (armed call world).world moves refl refl refl holds)
+  armed-keeps : (side : Side) (call : ℕ) → Keeps (armed side call)
+  armed-keeps side call world moves holds =
+      goes-still (armed side call world).world moves
+      (same-holds world (armed side call world).world moves refl refl refl holds)
 
-  happened-keeps : (event : Event) → MayHappen tool user loses event → HasBytes event → Keeps (happened e h event)
+  planned-keeps : (side : Side) (call : ℕ) (choice : CutChoice)
+      → Keeps (λ world. still (planned side call choice world))
+  planned-keeps side call choice world moves holds =
+      goes-still (planned side call choice world) moves
+      (same-holds world (planned side call choice world) moves refl refl refl holds)
+
+  happened-keeps : (event : Event) → MayHappen tool user loses host_loses event → HasBytes event
+      → Keeps (happened e h event)
   happened-keeps (event.To side n) may bytes = times-keeps n side
   happened-keeps (event.Lose side n) may bytes = losses-keep n side
   happened-keeps (event.Change side place byte) may bytes = change-keeps side place byte bytes
@@ -437,19 +511,21 @@ module _ {S T : Type 0}
       λ world moves holds. equipment-keeps (Command command) may world moves holds tt
   happened-keeps (event.Host command) may bytes =
       λ world moves holds. host-keeps (Command command) may world moves holds tt
-  happened-keeps (event.Cut call choice) may bytes = λ world moves holds.
-      goes-still (record world { cut = Some call; choice = choice }) moves
-      (same-holds world (record world { cut = Some call; choice = choice }) moves refl refl refl holds)
+  happened-keeps (event.Cut call choice) may bytes = planned-keeps Equipment call choice
+  happened-keeps (event.HostCut call choice) may bytes = planned-keeps Host call choice
 
-  met-keeps : (event : Event) → Keeps (happened e h event) → (cut : Option ℕ) → Keeps (met e h event cut)
+  met-keeps : (event : Event) → Keeps (happened e h event) → (cut : Option (Side × ℕ)) → Keeps (met e h event cut)
   met-keeps event keeps None world moves holds =
-      ended-good false (happened e h event world) (log_of moves) (keeps world moves holds)
-  met-keeps event keeps (Some call) world moves holds =
-      ended-good true (and_more (armed call world) (happened e h event)) (log_of moves)
-      (good-then (armed call world) (log_of moves) (happened e h event) (armed-keeps call world moves holds) keeps)
+      ended-good None (happened e h event world) (log_of moves) (keeps world moves holds)
+  met-keeps event keeps (Some (side, call)) world moves holds =
+      ended-good (Some side) (and_more (armed side call world) (happened e h event)) (log_of moves)
+      (good-then (armed side call world) (log_of moves) (happened e h event) (armed-keeps side call world moves holds)
+      keeps)
 
-  event-keeps : (event : Event) → MayHappen tool user loses event → HasBytes event → Keeps (after_event e h event)
+  event-keeps : (event : Event) → MayHappen tool user loses host_loses event → HasBytes event
+      → Keeps (after_event e h event)
   event-keeps (event.Cut call choice) may bytes = happened-keeps (event.Cut call choice) may bytes
+  event-keeps (event.HostCut call choice) may bytes = happened-keeps (event.HostCut call choice) may bytes
   event-keeps (event.To side n) may bytes = λ world.
       met-keeps (event.To side n) (happened-keeps (event.To side n) may bytes) world.cut world
   event-keeps (event.Lose side n) may bytes = λ world.
@@ -468,7 +544,7 @@ module _ {S T : Type 0}
       met-keeps (event.Host command) (happened-keeps (event.Host command) may bytes) world.cut world
 
   events-keep :
-      (events : List Event) → All (MayHappen tool user loses) events → All HasBytes events → Keeps
+      (events : List Event) → All (MayHappen tool user loses host_loses) events → All HasBytes events → Keeps
       (after_events e h events)
   events-keep [] may bytes = goes-still
   events-keep (event ∷ events) may bytes =
@@ -481,23 +557,27 @@ module _ {S T : Type 0}
 
   abbrev started : List Move
   started =
-      started_at Host 0 law_h.starts.found law_h.starts.base
-      ∷ started_at Equipment 0 law_e.starts.found law_e.starts.base ∷ []
+      started_at Host 0 law_h.starts.note law_h.starts.base
+      ∷ started_at Equipment 0 law_e.starts.note law_e.starts.base ∷ []
 
   start-holds : Holds (at_start e h first_e first_h).world started
   start-holds = record {
     made =
         record {
           keep = (
-            record { least = omega arith; above = λ drawn has. absurd has },
-            (record { least = omega arith; above = λ drawn has. absurd has }, tt),
+            (law_h.starts.of_side, record { least = omega arith; above = λ drawn has. absurd has }),
+            (
+              (law_e.starts.of_side, record { least = omega arith; above = λ drawn has. absurd has }),
+              tt,
+            ),
           );
           timely = (tt, (tt, tt));
           clean = (refl, (refl, tt));
           equipment = equipment;
           host = host;
           steps =
-              both_start started law_e.starts.found law_h.starts.found law_e.starts.base law_h.starts.base refl
+              both_start started law_e.starts.note law_h.starts.note law_e.starts.base law_h.starts.base refl
+              law_e.starts.of_side law_h.starts.of_side
               (at-states started first_e.next first_h.next equipment host);
         };
     stands = record {
@@ -519,10 +599,10 @@ module _ {S T : Type 0}
       ap (λ (ns : List Happening). log_with 0 Host ns (log_with 0 Equipment first_e.notes [])) law_h.starts.notes
       ∙ ap
       (λ (ns : List Happening).
-      log_with 0 Host (start_of Host law_h.starts.found law_h.starts.base ∷ []) (log_with 0 Equipment ns []))
+      log_with 0 Host (law_h.starts.note ∷ []) (log_with 0 Equipment ns []))
       law_e.starts.notes
 
-  pub run-is : (events : List Event) → All (MayHappen tool user loses) events → All HasBytes events
+  pub run-is : (events : List Event) → All (MayHappen tool user loses host_loses) events → All HasBytes events
       → Good (piece_of e h first_e first_h events) []
   run-is events may bytes =
       good-then (begun e h first_e first_h) [] (after_events e h events)
@@ -531,6 +611,6 @@ module _ {S T : Type 0}
             with_last started first_e.next first_h.next [] ((at_start e h first_e first_h).entries ++ [])
             start-holds.made (omega arith) tt (append-nil (at_start e h first_e first_h).entries ∙ start-log);
         on = λ on. (refl, start-holds);
-        fallen = λ lost. cc;
+        fallen = λ whose lost. cc;
       }) both-keeps)
       (events-keep events may bytes)

@@ -2,7 +2,6 @@
 use Rattle.std.proofs.Common.{◌≡◌, ◌⊎◌, inl, inr, ◌≤◌, ℕ, false, List, [], ◌∷◌, ◌++◌, length, None, refl, sym, ap, subst, ◌∙◌, append-nil, arith}
 use Rattle.std.proofs.lemmas.List.{append_cancel_left}
 use Rattle.gl_base.specs.declared.side.Side.{Side}
-use Rattle.gl_base.specs.declared.side.Side.TheVariants.{Equipment}
 use Rattle.line_end.specs.State.{LineState}
 use Rattle.line_end.specs.Step.{LineCall, is_due}
 use Rattle.line_order.specs.Acts.{Deed, HasNoSlip, IsRun, line_after, line_after_deed}
@@ -20,6 +19,7 @@ use Rattle.message_end.specs.Doings.{Doing, line_of, own_of}
 use Rattle.message_end.specs.Drops.{AreDroppedAt}
 use Rattle.message_end.specs.Ends.{AreBegunOf, AreOfStep, DoesMore, DoesStep, HasRestarted, Input, KeepsLaw, Machine, MayTake, OnStart, taking_calls, wrote}
 use Rattle.message_end.specs.Ends.Input.{Char, Command, Time}
+use Rattle.message_end.specs.Ends.IsOfWorld.{of_wrote}
 use Rattle.message_end.specs.History.{noted_in, written_in}
 use Rattle.message_end.specs.Log.{log_of}
 use Rattle.message_end.specs.InStep.{EndsOnce, HasNoEnd}
@@ -36,6 +36,7 @@ use Rattle.end_pair.specs.Laws.{AreNoNotes}
 use Rattle.end_pair.specs.Steps.{Stepped, entries_of, gives, made, slip_of, slipped, slips}
 use Rattle.end_pair.proofs.ByteWays.{AreByteWays, bytes-after}
 use Rattle.end_pair.proofs.Bytes.{AreBytes, are-written, behind}
+use Rattle.end_pair.proofs.Causes.{never-early}
 use Rattle.end_pair.proofs.Doing.{AreDone, AreOnWay, IsNext, NoSlipIn, are-done, deeds_by, no-slip, no-slip-first, on-way-first, step-deeds, step-no-slip, step-on-way}
 use Rattle.end_pair.proofs.DoingMoves.{IsAt, deeds-moves, keep-done, line-moves, log-done, log_with-behind, own-base, own-doings, timely-done}
 use Rattle.end_pair.proofs.EndedSteps.{cut-at-once, of-cut-step, of-whole-step}
@@ -72,22 +73,21 @@ pub record HasStepped {S : Type 0}
       step.went ≡ answer.Went
       → (last ≡ []) × IsLike step.ways (line_of_moves plans (moves_with side now done moves)) × AreByteWays step.ways
 
--- behind these moves the equipment has lost its power, which leaves the line so and the directions so: the host is at a
--- state still, and what starts anew then does so lawfully
+-- behind these moves this end has lost its power, which leaves the line so and the directions so: what starts anew then
+-- does so lawfully
 pub record HasLostAll {S : Type 0}
-    (did : ℕ → List Doing → S → Type 0) (plans : LinePlans) (machine_restart : Went S Happening) (ways : Ways)
-    (moves : List Move) : Type 0 where
+    (did : ℕ → List Doing → S → Type 0) (side : Side) (plans : LinePlans) (machine_restart : Went S Happening)
+    (ways : Ways) (moves : List Move) : Type 0 where
   pub state :
-      (seen_at Equipment plans moves).here.state
-      ≡ line_of (plan_at Equipment plans) (run_at Equipment plans moves).doings
-  pub received : whole_in (own_of (plan_at Equipment plans) (run_at Equipment plans moves).doings) ≡ None
+      (seen_at side plans moves).here.state ≡ line_of (plan_at side plans) (run_at side plans moves).doings
+  pub received : whole_in (own_of (plan_at side plans) (run_at side plans moves).doings) ≡ None
   pub starts :
       OnStart
-      (HasRestarted (plan_at Equipment plans) did (run_at Equipment plans moves).base
-      (run_at Equipment plans moves).doings) machine_restart
+      (HasRestarted (plan_at side plans) did (run_at side plans moves).base (run_at side plans moves).doings)
+      machine_restart
   pub dark :
-      IsLike (without_power Equipment ways)
-      (line_after_deed (line_of_moves plans moves) (record { side = Equipment; act = PowerLoss }))
+      IsLike (without_power side ways)
+      (line_after_deed (line_of_moves plans moves) (record { side = side; act = PowerLoss }))
 
 -- what a step has left in which a disk has stopped it is what its first moves have made, before its end, and could have
 -- gone on to a state
@@ -107,14 +107,14 @@ pub record HasStopped {S : Type 0}
       (run_at side plans (moves_with side now later (moves_with side now done moves))).doings next
   pub entries : step.entries ++ log_of moves ≡ log_of (moves_with side now done moves)
 
--- so is what a step has left in which the equipment's power was lost
+-- so is what a step has left in which its end's power was lost
 pub record HasFallen {S C : Type 0}
-    (did : ℕ → List Doing → S → Type 0) (machine : Machine S C) (plans : LinePlans) (now : ℕ) (moves : List Move)
-    (step : Stepped S)
+    (did : ℕ → List Doing → S → Type 0) (machine : Machine S C) (side : Side) (plans : LinePlans) (now : ℕ)
+    (moves : List Move) (step : Stepped S)
     : Type 0 where
-  pub stopped : HasStopped did Equipment plans now moves step
+  pub stopped : HasStopped did side plans now moves step
   pub lost :
-      HasLostAll did plans (machine.restart step.end now) step.ways (moves_with Equipment now stopped.done moves)
+      HasLostAll did side plans (machine.restart step.end now) step.ways (moves_with side now stopped.done moves)
 
 module _ {S C : Type 0} (did : ℕ → List Doing → S → Type 0) (takes : C → Type 0) (first : Step S Happening)
     (machine : Machine S C)
@@ -215,7 +215,8 @@ module _ {S C : Type 0} (did : ℕ → List Doing → S → Type 0) (takes : C �
   wrote-did : (written : List ℕ) (base : ℕ) (done doings : List Doing) (next : S) → did base (done ++ doings) next
       → did base (with_wrote written done ++ doings) next
   wrote-did [] base done doings next is = is
-  wrote-did (byte ∷ bytes) base done doings next is = law.says base (done ++ doings) next (Wrote (byte ∷ bytes)) is tt
+  wrote-did (byte ∷ bytes) base done doings next is =
+      law.says base (done ++ doings) next (Wrote (byte ∷ bytes)) is (of_wrote (byte ∷ bytes))
 
   wrote-done : (written : List ℕ) (line : Line) (doings done : List Doing) → AreDone (plan_at side plans) side line
       doings done
@@ -425,6 +426,6 @@ module _ {S C : Type 0} (did : ℕ → List Doing → S → Type 0) (takes : C �
         no_notes = tt;
         entries = refl;
         how = inr (of-cut-step input now more.done more.calls more.ends);
-        ended = λ on. cc;
-        on = λ on. cc;
+        ended = λ on. absurd (never-early (machine.fills s input now) on);
+        on = λ on. absurd (never-early (machine.fills s input now) on);
       }

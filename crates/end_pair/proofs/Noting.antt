@@ -5,7 +5,7 @@ use Rattle.gl_base.specs.declared.side.Side.TheVariants.{Equipment, Host}
 use Rattle.line_schedule.specs.declared.event.Event.{Event}
 use Rattle.line_schedule.specs.declared.event.Event.TheVariants as event
 use Rattle.line_way.specs.Ways.{characters_of, is_under_way, next_byte}
-use Rattle.message_end.specs.Core.{Step, Went}
+use Rattle.message_end.specs.Core.{Step, Went, step_in}
 use Rattle.message_end.specs.Core.Went.{Goes, Spent}
 use Rattle.message_end.specs.Course.{Course, noted_behind, notes_of}
 use Rattle.message_end.specs.Course.Course.{Reached}
@@ -20,10 +20,11 @@ use Rattle.end_pair.specs.declared.answers.WorldStep.{WorldStep}
 use Rattle.end_pair.specs.declared.answers.WorldStep.TheVariants as answer
 use Rattle.end_pair.specs.Noted.{AreOfCourses, AreTimesOf, TimedNotes, noted_by, timed_behind, timed_by}
 use Rattle.end_pair.specs.Run.{closing, log_of, piece_of}
-use Rattle.end_pair.specs.Steps.{Stepped, entries_of, stepped}
-use Rattle.end_pair.specs.World.{Piece, World, added_to, after_event, after_events, again, and_more, and_on, armed, at_start, begun, both_stepped, changed_at, darkened, ended_by, equipment_stepped, given, given_next, given_times, happened, host_stepped, later, lost_from, met, most_steps, settled, settled_times, started_anew, still, turned_out, way_to, with_equipment, with_host, without}
-use Rattle.end_pair.proofs.EndNoting.{HasAgain, HasNoted, IsAsNoted, IsBroken, IsNoted, IsReached, again-broken, again-reached, behind-other, noted-other, noted-own, other-entries, own-entries, reached-noted, stays-reached, step-noted, timed-entries, timed-other, timed-own}
-use Rattle.end_pair.proofs.Powered.{run-powered, unplanned}
+use Rattle.end_pair.specs.Steps.{Stepped, entries_of}
+use Rattle.end_pair.specs.World.{EndAt, Piece, World, added_to, after_event, after_events, again, and_more, and_on, armed, at_start, begun, both_stepped, changed_at, darkened, ended_by, equipment_makes, equipment_stepped, given, given_next, given_times, happened, host_makes, host_stepped, is_to_lose, later, lost_from, met, most_steps, planned, settled, settled_times, started_anew, still, timed, turned_out, way_to, with_equipment, with_host, with_started, without}
+use Rattle.end_pair.proofs.EndNoting.{HasAgain, HasNoted, IsAsNoted, IsBroken, IsNoted, IsReached, again-broken, again-goes, again-noted, again-reached, behind-other, noted-other, noted-own, other-entries, own-entries, reached-noted, stays-reached, step-noted, timed-entries, timed-other, timed-own}
+use Rattle.end_pair.proofs.Causes.{by-cause}
+use Rattle.end_pair.proofs.Powered.{run-powered}
 
 -- ---- both ends
 
@@ -38,15 +39,20 @@ module _ {E H : Type 0}
       pub equipment_is : IsNoted equipment e Equipment log
       pub host_is : IsNoted host h Host log
 
-    -- the equipment has lost its power in a step
-    pub record AreBroken (world : World E H) (log : List Entry) : Type 0 where
-      pub equipment_is : IsBroken equipment e Equipment world.moment world.choice world.equipment log
-      pub host_is : IsReached host h Host world.host log
+    -- an end has lost its power in a step
+    abbrev AreBroken : Side → World E H → List Entry → Type 0
+    AreBroken Equipment world log =
+        IsBroken equipment e Equipment world.moment world.choice world.equipment log
+        × IsReached host h Host world.host log
+    AreBroken Host world log =
+        IsReached equipment e Equipment world.equipment log
+        × IsBroken host h Host world.moment world.choice world.host log
 
     pub record Good (piece : Piece E H) (before : List Entry) : Type 0 where
-      pub noted : piece.went ≢ answer.PowerLost → AreNoted (piece.entries ++ before)
+      pub noted : ((whose : Side) → piece.went ≢ answer.PowerLost whose) → AreNoted (piece.entries ++ before)
       pub on : piece.went ≡ answer.Went → AreReached piece.world (piece.entries ++ before)
-      pub broken : piece.went ≡ answer.PowerLost → AreBroken piece.world (piece.entries ++ before)
+      pub broken :
+          (whose : Side) → piece.went ≡ answer.PowerLost whose → AreBroken whose piece.world (piece.entries ++ before)
 
     abbrev Keeps : (World E H → Piece E H) → Type 0
     Keeps more = (world : World E H) (log : List Entry) → AreReached world log → Good (more world) log
@@ -67,12 +73,16 @@ module _ {E H : Type 0}
             subst (λ (s : E). IsReached equipment e Equipment s log) (sym same_e) at.equipment_is;
         host_is = subst (λ (s : H). IsReached host h Host s log) (sym same_h) at.host_is;
       };
-      broken = λ dark. absurd (cc);
+      broken = λ whose dark. absurd (cc);
     }
 
     goes-out : (world : World E H) (log : List Entry) → AreReached world log → Good (turned_out world) log
     goes-out world log at =
-        record { noted = λ other. noted-both world log at; on = λ on. absurd (cc); broken = λ dark. absurd (cc) }
+        record {
+          noted = λ other. noted-both world log at;
+          on = λ on. absurd (cc);
+          broken = λ whose dark. absurd (cc);
+        }
 
     good-then :
         (piece : Piece E H) (before : List Entry) (rest : World E H → Piece E H) → Good piece before → Keeps rest
@@ -86,13 +96,15 @@ module _ {E H : Type 0}
             record {
               noted = λ other. subst (λ (l : List Entry). AreNoted l) (sym same) (next.noted other);
               on = λ on. subst (λ (l : List Entry). AreReached (rest piece.world).world l) (sym same) (next.on on);
-              broken = λ dark.
-                  subst (λ (l : List Entry). AreBroken (rest piece.world).world l) (sym same) (next.broken dark);
+              broken = λ whose dark.
+                  subst (λ (l : List Entry). AreBroken whose (rest piece.world).world l) (sym same)
+                  (next.broken whose dark);
             }
         go answer.Slip is = good
         go answer.Turns is = good
         go answer.NumbersSpent is = good
-        go answer.PowerLost is = good
+        go answer.JournalFull is = good
+        go (answer.PowerLost whose) is = good
         go answer.NoMemory is = good
 
     keeps-then : (first rest : World E H → Piece E H) → Keeps first → Keeps rest
@@ -102,73 +114,87 @@ module _ {E H : Type 0}
     equipment-keeps : (input : Input ToolCommand) → Keeps (equipment_stepped e h input)
     equipment-keeps input world log at = go (world.steps == most_steps)
       where
+        is_cut : Bool
+        is_cut = is_to_lose Equipment world.is_cut
+
         step : Stepped E
-        step = stepped e Equipment world.moment world.left world.is_cut world.choice input world.equipment world.ways
+        step = equipment_makes e h input world
 
         is : HasNoted equipment e Equipment step world.moment world.choice log
         is =
-            step-noted equipment e Equipment world.moment world.left world.is_cut world.choice input world.equipment
+            step-noted equipment e Equipment world.moment world.left is_cut world.choice input world.equipment
             world.ways log at.equipment_is
 
         other : IsAsNoted Host (step.entries ++ log) log
         other =
-            other-entries e Equipment Host refl world.moment world.left world.is_cut world.choice input world.equipment
+            other-entries e Equipment Host refl world.moment world.left is_cut world.choice input world.equipment
             world.ways log
 
         host_at : IsReached host h Host world.host (step.entries ++ log)
         host_at = stays-reached host h Host world.host log (step.entries ++ log) other at.host_is
 
-        go : (b : Bool)
-            → Good
-            (if b then turned_out world
-            else with_equipment e h world step)
-            log
+        own : (whose : Side) → step.went ≡ answer.PowerLost whose → whose ≡ Equipment
+        own =
+            (by-cause e Equipment world.moment world.left is_cut world.choice input world.equipment
+            world.ways).no_other_end
+
+        broken : (whose : Side) → step.went ≡ answer.PowerLost whose
+            → AreBroken whose (with_equipment e h world step).world (step.entries ++ log)
+        broken Equipment dark = (is.broken dark, host_at)
+        broken Host dark = let same = own Host dark in absurd (cc)
+
+        go : (b : Bool) → Good (if b then turned_out world else with_equipment e h world step) log
         go true = goes-out world log at
         go false = record {
-          noted = λ other. record {
-            equipment_is = is.noted other;
+          noted = λ powered. record {
+            equipment_is = is.noted powered;
             host_is = reached-noted host h Host world.host (step.entries ++ log) host_at;
           };
           on = λ on. record { equipment_is = is.on on; host_is = host_at };
-          broken = λ dark. record { equipment_is = is.broken dark; host_is = host_at };
+          broken = broken;
         }
 
     host-keeps : (input : Input HostCommand) → Keeps (host_stepped e h input)
     host-keeps input world log at = go (world.steps == most_steps)
       where
+        is_cut : Bool
+        is_cut = is_to_lose Host world.is_cut
+
         step : Stepped H
-        step = stepped h Host world.moment world.host_left false world.choice input world.host world.ways
+        step = host_makes e h input world
 
         is : HasNoted host h Host step world.moment world.choice log
         is =
-            step-noted host h Host world.moment world.host_left false world.choice input world.host world.ways log
+            step-noted host h Host world.moment world.host_left is_cut world.choice input world.host world.ways log
             at.host_is
-
-        never : step.went ≡ answer.PowerLost → ⊥
-        never = unplanned h Host world.moment world.host_left world.choice input world.host world.ways
 
         other : IsAsNoted Equipment (step.entries ++ log) log
         other =
-            other-entries h Host Equipment refl world.moment world.host_left false world.choice input world.host
+            other-entries h Host Equipment refl world.moment world.host_left is_cut world.choice input world.host
             world.ways log
 
         equipment_at : IsReached equipment e Equipment world.equipment (step.entries ++ log)
         equipment_at =
             stays-reached equipment e Equipment world.equipment log (step.entries ++ log) other at.equipment_is
 
-        go : (b : Bool)
-            → Good
-            (if b then turned_out world
-            else with_host e h world step)
-            log
+        own : (whose : Side) → step.went ≡ answer.PowerLost whose → whose ≡ Host
+        own =
+            (by-cause h Host world.moment world.host_left is_cut world.choice input world.host world.ways).no_other_end
+
+        broken : (whose : Side) → step.went ≡ answer.PowerLost whose
+            → AreBroken whose (with_host e h world step).world (step.entries ++ log)
+        broken Host dark = (equipment_at, is.broken dark)
+        broken Equipment dark = let same = own Equipment dark in absurd (cc)
+
+        go : (b : Bool) → Good (if b then turned_out world else with_host e h world step) log
         go true = goes-out world log at
         go false = record {
-          noted = λ other. record {
+          noted = λ powered. record {
             equipment_is = reached-noted equipment e Equipment world.equipment (step.entries ++ log) equipment_at;
-            host_is = is.noted other;
+            host_is = is.noted powered;
           };
           on = λ on. record { equipment_is = equipment_at; host_is = is.on on };
-          broken = λ dark. absurd (never dark);
+          broken = broken;
         }
 
     -- ---- events
@@ -219,80 +245,106 @@ module _ {E H : Type 0}
     happens-keeps (event.Tool command) = equipment-keeps (Command command)
     happens-keeps (event.Host command) = host-keeps (Command command)
     happens-keeps (event.Cut call choice) = λ world log at.
-        goes-still world (record world { cut = Some call; choice = choice }) log refl refl at
+        goes-still world (planned Equipment call choice world) log refl refl at
+    happens-keeps (event.HostCut call choice) = λ world log at.
+        goes-still world (planned Host call choice world) log refl refl at
 
-    -- without power, the equipment starts anew
-    started-noted :
-        (world : World E H) (went : Went E Happening) (log : List Entry)
-        → HasAgain equipment e Equipment world.moment went log → IsReached host h Host world.host log
-        → Good (started_anew e h world went) log
-    started-noted world (Goes step) log is host_at = record {
-      noted = λ other. record {
-        equipment_is = reached-noted equipment e Equipment step.next (entries ++ log) there;
-        host_is = reached-noted host h Host world.host (entries ++ log) host_there;
-      };
-      on = λ on. record { equipment_is = there; host_is = host_there };
-      broken = λ dark. absurd (cc);
-    }
+    -- without power, an end starts anew
+    started-good :
+        (side : Side) (world : World E H) (went : Went (EndAt side E H) Happening) (log : List Entry)
+        → AreNoted (entries_of side world.moment (Power ∷ (step_in went).notes) ++ log)
+        → ((step : Step (EndAt side E H) Happening) → went ≡ Goes step
+        → AreReached (with_started e h side step.next world)
+        (entries_of side world.moment (Power ∷ step.notes) ++ log))
+        → Good (started_anew e h side world went) log
+    started-good side world (Goes step) log noted on =
+        record { noted = λ powered. noted; on = λ is. on step refl; broken = λ whose dark. absurd (cc) }
+    started-good side world (Spent step) log noted on =
+        record { noted = λ powered. noted; on = λ is. absurd (cc); broken = λ whose dark. absurd (cc) }
+
+    equipment-again :
+        (world : World E H) (log : List Entry)
+        → HasAgain equipment e Equipment world.moment (e.restart world.equipment world.moment) log
+        → IsReached host h Host world.host log → Good (again e h Equipment world) log
+    equipment-again world log is host_at =
+        started-good Equipment (darkened Equipment world) went log (record {
+          equipment_is = again-noted equipment e Equipment world.moment went log is;
+          host_is = reached-noted host h Host world.host (entries (step_in went).notes ++ log)
+              (there (step_in went).notes);
+        })
+        (λ step same. record {
+          equipment_is =
+              again-goes equipment e Equipment world.moment step log
+              (subst (λ (w : Went E Happening). HasAgain equipment e Equipment world.moment w log) same is);
+          host_is = there step.notes;
+        })
       where
-        entries : List Entry
-        entries = entries_of Equipment world.moment (Power ∷ step.notes)
+        went : Went E Happening
+        went = e.restart world.equipment world.moment
 
-        there : IsReached equipment e Equipment step.next (entries ++ log)
-        there = record {
-          met = is.met;
-          is =
-              is.is
-              ∙ ap (λ (ns : List Happening). Reached step.next ns)
-              (sym (own-entries equipment e Equipment world.moment (Power ∷ step.notes) log));
-          timed =
-              subst (λ (timed : TimedNotes). AreTimesOf equipment e is.met timed)
-              (sym (timed-entries equipment e Equipment world.moment (Power ∷ step.notes) log)) is.times;
-        }
+        entries : List Happening → List Entry
+        entries notes = entries_of Equipment world.moment (Power ∷ notes)
 
-        host_there : IsReached host h Host world.host (entries ++ log)
-        host_there =
-            stays-reached host h Host world.host log (entries ++ log)
-            (behind-other world.moment Equipment Host refl (Power ∷ step.notes) log) host_at
-    started-noted world (Spent step) log is host_at = record {
-      noted = λ other. record {
-        equipment_is = record {
-          met = is.met;
-          is =
-              own-entries equipment e Equipment world.moment (Power ∷ step.notes) log
-              ∙ sym (ap (λ (c : Course E). notes_of c) is.is);
-          timed =
-              subst (λ (timed : TimedNotes). AreTimesOf equipment e is.met timed)
-              (sym (timed-entries equipment e Equipment world.moment (Power ∷ step.notes) log)) is.times;
-        };
-        host_is = reached-noted host h Host world.host (entries ++ log) host_there;
-      };
-      on = λ on. absurd (cc);
-      broken = λ dark. absurd (cc);
-    }
+        there : (notes : List Happening) → IsReached host h Host world.host (entries notes ++ log)
+        there notes =
+            stays-reached host h Host world.host log (entries notes ++ log)
+            (behind-other world.moment Equipment Host refl (Power ∷ notes) log) host_at
+
+    host-again :
+        (world : World E H) (log : List Entry)
+        → HasAgain host h Host world.moment (h.restart world.host world.moment) log
+        → IsReached equipment e Equipment world.equipment log → Good (again e h Host world) log
+    host-again world log is equipment_at =
+        started-good Host (darkened Host world) went log (record {
+          equipment_is =
+              reached-noted equipment e Equipment world.equipment (entries (step_in went).notes ++ log)
+              (there (step_in went).notes);
+          host_is = again-noted host h Host world.moment went log is;
+        })
+        (λ step same. record {
+          equipment_is = there step.notes;
+          host_is =
+              again-goes host h Host world.moment step log
+              (subst (λ (w : Went H Happening). HasAgain host h Host world.moment w log) same is);
+        })
       where
-        entries : List Entry
-        entries = entries_of Equipment world.moment (Power ∷ step.notes)
+        went : Went H Happening
+        went = h.restart world.host world.moment
 
-        host_there : IsReached host h Host world.host (entries ++ log)
-        host_there =
-            stays-reached host h Host world.host log (entries ++ log)
-            (behind-other world.moment Equipment Host refl (Power ∷ step.notes) log) host_at
+        entries : List Happening → List Entry
+        entries notes = entries_of Host world.moment (Power ∷ notes)
 
-    again-keeps : Keeps (again e h)
-    again-keeps world log at =
-        started-noted (darkened world) (e.restart world.equipment world.moment) log
+        there : (notes : List Happening) → IsReached equipment e Equipment world.equipment (entries notes ++ log)
+        there notes =
+            stays-reached equipment e Equipment world.equipment log (entries notes ++ log)
+            (behind-other world.moment Host Equipment refl (Power ∷ notes) log) equipment_at
+
+    again-keeps : (side : Side) → Keeps (again e h side)
+    again-keeps Equipment world log at =
+        equipment-again world log
         (again-reached equipment e Equipment world.moment world.equipment log at.equipment_is) at.host_is
+    again-keeps Host world log at =
+        host-again world log (again-reached host h Host world.moment world.host log at.host_is) at.equipment_is
 
-    without-keeps : Keeps (without e h)
-    without-keeps = keeps-then (again e h) (equipment_stepped e h Time) again-keeps (equipment-keeps Time)
+    again-from : (side : Side) (world : World E H) (log : List Entry) → AreBroken side world log
+        → Good (again e h side world) log
+    again-from Equipment world log at =
+        equipment-again world log
+        (again-broken equipment e Equipment world.moment world.choice world.equipment log at.0) at.1
+    again-from Host world log at =
+        host-again world log (again-broken host h Host world.moment world.choice world.host log at.1) at.0
 
-    without-broken : (world : World E H) (log : List Entry) → AreBroken world log → Good (without e h world) log
-    without-broken world log at =
-        good-then (again e h world) log (equipment_stepped e h Time)
-        (started-noted (darkened world) (e.restart world.equipment world.moment) log
-        (again-broken equipment e Equipment world.moment world.choice world.equipment log at.equipment_is) at.host_is)
-        (equipment-keeps Time)
+    timed-keeps : (side : Side) → Keeps (timed e h side)
+    timed-keeps Equipment = equipment-keeps Time
+    timed-keeps Host = host-keeps Time
+
+    without-keeps : (side : Side) → Keeps (without e h side)
+    without-keeps side = keeps-then (again e h side) (timed e h side) (again-keeps side) (timed-keeps side)
+
+    without-broken : (side : Side) (world : World E H) (log : List Entry) → AreBroken side world log
+        → Good (without e h side world) log
+    without-broken side world log at =
+        good-then (again e h side world) log (timed e h side) (again-from side world log at) (timed-keeps side)
 
     -- a piece that went on, and what follows
     went-then :
@@ -301,42 +353,42 @@ module _ {E H : Type 0}
     went-then piece before rest next = record {
       noted = λ other. subst (λ (l : List Entry). AreNoted l) (sym same) (next.noted other);
       on = λ on. subst (λ (l : List Entry). AreReached (rest piece.world).world l) (sym same) (next.on on);
-      broken = λ dark. subst (λ (l : List Entry). AreBroken (rest piece.world).world l) (sym same) (next.broken dark);
+      broken = λ whose dark.
+          subst (λ (l : List Entry). AreBroken whose (rest piece.world).world l) (sym same) (next.broken whose dark);
     }
       where
         same : ((rest piece.world).entries ++ piece.entries) ++ before ≡ (rest piece.world).entries
             ++ (piece.entries ++ before)
         same = append_assoc (rest piece.world).entries piece.entries before
 
-    ended-good : (is_cut : Bool) (piece : Piece E H) (before : List Entry) → Good piece before
-        → Good (ended_by e h is_cut piece.went piece) before
-    ended-good is_cut piece before good = go is_cut piece.went refl
+    ended-good : (cut : Option Side) (piece : Piece E H) (before : List Entry) → Good piece before
+        → Good (ended_by e h cut piece.went piece) before
+    ended-good cut piece before good = go cut piece.went refl
       where
-        go : (is_cut : Bool) (went : WorldStep) → piece.went ≡ went → Good (ended_by e h is_cut went piece) before
-        go is_cut answer.PowerLost is =
-            went-then piece before (without e h)
-            (without-broken piece.world (piece.entries ++ before) (good.broken is))
-        go true answer.Went is =
-            went-then piece before (without e h) (without-keeps piece.world (piece.entries ++ before) (good.on is))
-        go false answer.Went is = good
-        go is_cut answer.Slip is = good
-        go is_cut answer.Turns is = good
-        go is_cut answer.NumbersSpent is = good
-        go is_cut answer.NoMemory is = good
+        go : (cut : Option Side) (went : WorldStep) → piece.went ≡ went → Good (ended_by e h cut went piece) before
+        go cut (answer.PowerLost whose) is =
+            went-then piece before (without e h whose)
+            (without-broken whose piece.world (piece.entries ++ before) (good.broken whose is))
+        go (Some side) answer.Went is =
+            went-then piece before (without e h side)
+            (without-keeps side piece.world (piece.entries ++ before) (good.on is))
+        go None answer.Went is = good
+        go cut answer.Slip is = good
+        go cut answer.Turns is = good
+        go cut answer.NumbersSpent is = good
+        go cut answer.JournalFull is = good
+        go cut answer.NoMemory is = good
 
-    armed-keeps : (call : ℕ) → Keeps (armed call)
-    armed-keeps call world log at = record {
-      noted = λ other. noted-both world log at;
-      on = λ on. record { equipment_is = at.equipment_is; host_is = at.host_is };
-      broken = λ dark. absurd (cc);
-    }
+    armed-keeps : (side : Side) (call : ℕ) → Keeps (armed side call)
+    armed-keeps side call world log at = goes-still world (armed side call world).world log refl refl at
 
-    met-keeps : (event : Event) (cut : Option ℕ) → Keeps (met e h event cut)
-    met-keeps event None world log at = ended-good false (happened e h event world) log
+    met-keeps : (event : Event) (cut : Option (Side × ℕ)) → Keeps (met e h event cut)
+    met-keeps event None world log at = ended-good None (happened e h event world) log
         (happens-keeps event world log at)
-    met-keeps event (Some call) world log at =
-        ended-good true (and_more (armed call world) (happened e h event)) log
-        (good-then (armed call world) log (happened e h event) (armed-keeps call world log at) (happens-keeps event))
+    met-keeps event (Some (side, call)) world log at =
+        ended-good (Some side) (and_more (armed side call world) (happened e h event)) log
+        (good-then (armed side call world) log (happened e h event) (armed-keeps side call world log at)
+        (happens-keeps event))
 
     event-keeps : (event : Event) → Keeps (after_event e h event)
     event-keeps (event.To side n) = λ world. met-keeps (event.To side n) world.cut world
@@ -348,6 +400,7 @@ module _ {E H : Type 0}
     event-keeps (event.Tool command) = λ world. met-keeps (event.Tool command) world.cut world
     event-keeps (event.Host command) = λ world. met-keeps (event.Host command) world.cut world
     event-keeps (event.Cut call choice) = happens-keeps (event.Cut call choice)
+    event-keeps (event.HostCut call choice) = happens-keeps (event.HostCut call choice)
 
     events-keep : (events : List Event) → Keeps (after_events e h events)
     events-keep [] = still-keeps
@@ -360,7 +413,7 @@ module _ {E H : Type 0}
     start-good = record {
       noted = λ other. noted-both (at_start e h equipment host).world ((at_start e h equipment host).entries ++ []) at;
       on = λ on. at;
-      broken = λ dark. absurd (cc);
+      broken = λ whose dark. absurd (cc);
     }
       where
         first : List Entry
@@ -432,6 +485,7 @@ module _ {E H : Type 0}
         }
         go answer.Slip now noted = of_noted (piece_of e h equipment host events).entries noted
         go answer.Turns now noted = of_noted (piece_of e h equipment host events).entries noted
-        go answer.PowerLost now noted = of_noted (piece_of e h equipment host events).entries noted
+        go (answer.PowerLost whose) now noted = of_noted (piece_of e h equipment host events).entries noted
         go answer.NumbersSpent now noted = of_noted (piece_of e h equipment host events).entries noted
+        go answer.JournalFull now noted = of_noted (piece_of e h equipment host events).entries noted
         go answer.NoMemory now noted = of_noted (piece_of e h equipment host events).entries noted

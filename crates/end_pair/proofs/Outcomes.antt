@@ -24,8 +24,7 @@ use Rattle.end_pair.specs.Kept.{MayHappen}
 use Rattle.end_pair.specs.Laws.{HasBytes, HasNoCall, IsOfMoves, RunsAreBounded}
 use Rattle.end_pair.specs.Run.{closing, piece_of, whole_log}
 use Rattle.end_pair.specs.Run as run
-use Rattle.end_pair.specs.Steps.{stepped}
-use Rattle.end_pair.specs.World.{Piece, World, after_event, after_events, again, and_more, and_on, armed, at_start, begun, both_stepped, darkened, ended_by, equipment_stepped, given, given_next, given_times, happened, host_stepped, later, met, most_steps, settled, settled_times, started_anew, still, turned_out, way_to, with_equipment, with_host, without}
+use Rattle.end_pair.specs.World.{EndAt, Piece, World, after_event, after_events, again, and_more, and_on, armed, at_start, begun, both_stepped, darkened, ended_by, equipment_makes, equipment_stepped, given, given_next, given_times, happened, host_makes, host_stepped, is_to_lose, later, met, most_steps, restart_of, settled, settled_times, started_anew, still, timed, turned_out, way_to, with_equipment, with_host, without}
 use Rattle.end_pair.proofs.Causes.{no-call}
 use Rattle.end_pair.proofs.HeldSteps.{Good, same_moves}
 use Rattle.end_pair.proofs.Holding.{run-is}
@@ -34,30 +33,30 @@ use Rattle.end_pair.proofs.Holding.{run-is}
 
 pub log-is :
     {S T : Type 0} (did_e : ℕ → List Doing → S → Type 0) (did_h : ℕ → List Doing → T → Type 0)
-    (tool : ToolCommand → Type 0) (user : HostCommand → Type 0) (loses : Type 0) (first_e : Step S Happening)
+    (tool : ToolCommand → Type 0) (user : HostCommand → Type 0) (loses host_loses : Type 0) (first_e : Step S Happening)
     (first_h : Step T Happening)
     (e : Machine S ToolCommand) (h : Machine T HostCommand) (plans : LinePlans)
     (law_e : KeepsLaw (plan_at Equipment plans) did_e tool (Goes first_e) e)
     (law_h : KeepsLaw (plan_at Host plans) did_h user (Goes first_h) h)
-    → (events : List Event) → All (MayHappen tool user loses) events → All HasBytes events
+    → (events : List Event) → All (MayHappen tool user loses host_loses) events → All HasBytes events
     → IsOfMoves did_e did_h plans (run.log_of e h first_e first_h events)
-log-is {S} {T} did_e did_h tool user loses first_e first_h e h plans law_e law_h events may bytes =
+log-is {S} {T} did_e did_h tool user loses host_loses first_e first_h e h plans law_e law_h events may bytes =
     go piece.went refl
   where
     piece : Piece S T
     piece = piece_of e h first_e first_h events
 
-    good : Good did_e did_h tool user loses first_e first_h e h plans law_e law_h piece []
-    good = run-is did_e did_h tool user loses first_e first_h e h plans law_e law_h events may bytes
+    good : Good did_e did_h tool user first_e first_h e h plans law_e law_h piece []
+    good = run-is did_e did_h tool user loses host_loses first_e first_h e h plans law_e law_h events may bytes
 
     of : IsOfMoves did_e did_h plans piece.entries
     of =
-        same_moves did_e did_h tool user loses first_e first_h e h plans law_e law_h (piece.entries ++ []) piece.entries
+        same_moves did_e did_h tool user first_e first_h e h plans law_e law_h (piece.entries ++ []) piece.entries
         (sym (append-nil piece.entries)) good.of
 
     some : piece.entries ≡ whole_log piece → IsOfMoves did_e did_h plans (whole_log piece)
     some is =
-        same_moves did_e did_h tool user loses first_e first_h e h plans law_e law_h piece.entries (whole_log piece)
+        same_moves did_e did_h tool user first_e first_h e h plans law_e law_h piece.entries (whole_log piece)
         (sym is) of
 
     same : (how : WorldStep) → piece.went ≡ how → closing how piece.world.moment ≡ [] → piece.entries ≡ whole_log piece
@@ -83,7 +82,8 @@ log-is {S} {T} did_e did_h tool user loses first_e first_h e h plans law_e law_h
     go answer.Slip is = some (same answer.Slip is refl)
     go answer.Turns is = some (same answer.Turns is refl)
     go answer.NumbersSpent is = some (same answer.NumbersSpent is refl)
-    go answer.PowerLost is = some (same answer.PowerLost is refl)
+    go answer.JournalFull is = some (same answer.JournalFull is refl)
+    go (answer.PowerLost whose) is = some (same (answer.PowerLost whose) is refl)
     go answer.NoMemory is = some (same answer.NoMemory is refl)
 
 -- ---- how many steps it makes
@@ -108,7 +108,8 @@ module _ {S T : Type 0} (e : Machine S ToolCommand) (h : Machine T HostCommand) 
       go answer.Slip = is
       go answer.Turns = is
       go answer.NumbersSpent = is
-      go answer.PowerLost = is
+      go answer.JournalFull = is
+      go (answer.PowerLost whose) = is
       go answer.NoMemory = is
 
   bounds-then : (first more : World S T → Piece S T) → Bounds first → Bounds more
@@ -132,17 +133,17 @@ module _ {S T : Type 0} (e : Machine S ToolCommand) (h : Machine T HostCommand) 
 
   equipment-bounds : (input : Input ToolCommand) → Bounds (equipment_stepped e h input)
   equipment-bounds input world few =
-      turn-bounds world (with_equipment e h world
-      (stepped e Equipment world.moment world.left world.is_cut world.choice input world.equipment world.ways)) few refl
-      (λ full.
-      inl (no-call e Equipment world.moment world.left world.is_cut world.choice input world.equipment world.ways full))
+      turn-bounds world (with_equipment e h world (equipment_makes e h input world)) few refl
+      (λ crowded.
+      inl (no-call e Equipment world.moment world.left (is_to_lose Equipment world.is_cut) world.choice input
+      world.equipment world.ways crowded))
 
   host-bounds : (input : Input HostCommand) → Bounds (host_stepped e h input)
   host-bounds input world few =
-      turn-bounds world (with_host e h world
-      (stepped h Host world.moment world.host_left false world.choice input world.host world.ways)) few refl
-      (λ full.
-      inr (no-call h Host world.moment world.host_left false world.choice input world.host world.ways full))
+      turn-bounds world (with_host e h world (host_makes e h input world)) few refl
+      (λ crowded.
+      inr (no-call h Host world.moment world.host_left (is_to_lose Host world.is_cut) world.choice input world.host
+      world.ways crowded))
 
   given-bounds : (side : Side) → Bounds (given e h side)
   given-bounds side world few = go side (next_byte (characters_of (way_to side world).under_way))
@@ -183,39 +184,46 @@ module _ {S T : Type 0} (e : Machine S ToolCommand) (h : Machine T HostCommand) 
   happens-bounds (event.Tool command) = equipment-bounds (Command command)
   happens-bounds (event.Host command) = host-bounds (Command command)
   happens-bounds (event.Cut call choice) = λ world few. record { steps = few; turns = λ is. cc }
+  happens-bounds (event.HostCut call choice) = λ world few. record { steps = few; turns = λ is. cc }
 
   -- a start anew is no step
-  started-bounds : (world : World S T) → world.steps ≤ 4000000 → (went : Went S Happening)
-      → IsBounded (started_anew e h world went)
-  started-bounds world few (Goes step) = record { steps = few; turns = λ is. cc }
-  started-bounds world few (Spent step) = record { steps = few; turns = λ is. cc }
+  started-bounds : (side : Side) (world : World S T) → world.steps ≤ 4000000 → (went : Went (EndAt side S T) Happening)
+      → IsBounded (started_anew e h side world went)
+  started-bounds side world few (Goes step) = record { steps = few; turns = λ is. cc }
+  started-bounds side world few (Spent step) = record { steps = few; turns = λ is. cc }
 
-  without-bounds : Bounds (without e h)
-  without-bounds world few =
-      bounded-then (again e h world) (equipment_stepped e h Time)
-      (started-bounds (darkened world) few (e.restart world.equipment world.moment)) (equipment-bounds Time)
+  timed-bounds : (side : Side) → Bounds (timed e h side)
+  timed-bounds Equipment = equipment-bounds Time
+  timed-bounds Host = host-bounds Time
 
-  ended-bounds : (is_cut : Bool) (piece : Piece S T) → IsBounded piece → IsBounded
-      (ended_by e h is_cut piece.went piece)
-  ended-bounds is_cut piece is = go is_cut piece.went
+  without-bounds : (side : Side) → Bounds (without e h side)
+  without-bounds side world few =
+      bounded-then (again e h side world) (timed e h side)
+      (started-bounds side (darkened side world) few (restart_of e h side world)) (timed-bounds side)
+
+  ended-bounds : (cut : Option Side) (piece : Piece S T) → IsBounded piece
+      → IsBounded (ended_by e h cut piece.went piece)
+  ended-bounds cut piece is = go cut piece.went
     where
-      again_is : IsBounded (and_on answer.Went piece (without e h))
-      again_is = let next = without-bounds piece.world is.steps in record { steps = next.steps; turns = next.turns }
+      again_is : (side : Side) → IsBounded (and_on answer.Went piece (without e h side))
+      again_is side =
+          let next = without-bounds side piece.world is.steps in record { steps = next.steps; turns = next.turns }
 
-      go : (is_cut : Bool) (went : WorldStep) → IsBounded (ended_by e h is_cut went piece)
-      go is_cut answer.PowerLost = again_is
-      go true answer.Went = again_is
-      go false answer.Went = is
-      go is_cut answer.Slip = is
-      go is_cut answer.Turns = is
-      go is_cut answer.NumbersSpent = is
-      go is_cut answer.NoMemory = is
+      go : (cut : Option Side) (went : WorldStep) → IsBounded (ended_by e h cut went piece)
+      go cut (answer.PowerLost whose) = again_is whose
+      go (Some side) answer.Went = again_is side
+      go None answer.Went = is
+      go cut answer.Slip = is
+      go cut answer.Turns = is
+      go cut answer.NumbersSpent = is
+      go cut answer.JournalFull = is
+      go cut answer.NoMemory = is
 
-  met-bounds : (event : Event) (cut : Option ℕ) → Bounds (met e h event cut)
-  met-bounds event None world few = ended-bounds false (happened e h event world) (happens-bounds event world few)
-  met-bounds event (Some call) world few =
-      ended-bounds true (and_more (armed call world) (happened e h event))
-      (bounded-then (armed call world) (happened e h event) (record { steps = few; turns = λ is. cc })
+  met-bounds : (event : Event) (cut : Option (Side × ℕ)) → Bounds (met e h event cut)
+  met-bounds event None world few = ended-bounds None (happened e h event world) (happens-bounds event world few)
+  met-bounds event (Some (side, call)) world few =
+      ended-bounds (Some side) (and_more (armed side call world) (happened e h event))
+      (bounded-then (armed side call world) (happened e h event) (record { steps = few; turns = λ is. cc })
       (happens-bounds event))
 
   event-bounds : (event : Event) → Bounds (after_event e h event)
@@ -228,6 +236,7 @@ module _ {S T : Type 0} (e : Machine S ToolCommand) (h : Machine T HostCommand) 
   event-bounds (event.Tool command) = λ world. met-bounds (event.Tool command) world.cut world
   event-bounds (event.Host command) = λ world. met-bounds (event.Host command) world.cut world
   event-bounds (event.Cut call choice) = happens-bounds (event.Cut call choice)
+  event-bounds (event.HostCut call choice) = happens-bounds (event.HostCut call choice)
 
   events-bounds : (events : List Event) → Bounds (after_events e h events)
   events-bounds [] = still-bounds

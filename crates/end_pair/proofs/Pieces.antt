@@ -1,8 +1,9 @@
 -- Pieces of a run, one after another, and their text.
 use Rattle.std.proofs.Common.{◌≡◌, ◌≢◌, ℕ, List, [], ◌++◌, refl, sym, ap, subst, ◌∙◌, append_assoc, append-nil}
+use Rattle.gl_base.specs.declared.side.Side.{Side}
 use Rattle.trace_log.specs.Text.{text_of}
 use Rattle.end_pair.specs.declared.answers.WorldStep.{WorldStep}
-use Rattle.end_pair.specs.declared.answers.WorldStep.TheVariants.{Went, Slip, Turns, NumbersSpent, PowerLost, NoMemory}
+use Rattle.end_pair.specs.declared.answers.WorldStep.TheVariants.{Went, Slip, Turns, NumbersSpent, JournalFull, PowerLost, NoMemory}
 use Rattle.end_pair.specs.Kept.{Comes, IfLeft, IfWent, IsPowered, PutPart, Puts}
 use Rattle.end_pair.specs.World.{Piece, World, and_more, and_on, still}
 use Rattle.message_end.proofs.LogText.{text_of-append}
@@ -53,7 +54,9 @@ puts_behind how Turns first second old between lines one two =
     (two.0, two.1 ∙ ap (λ (t : List ℕ). t ++ second) one ∙ append_assoc old first second)
 puts_behind how NumbersSpent first second old between lines one two =
     (two.0, two.1 ∙ ap (λ (t : List ℕ). t ++ second) one ∙ append_assoc old first second)
-puts_behind how PowerLost first second old between lines one two =
+puts_behind how JournalFull first second old between lines one two =
+    (two.0, two.1 ∙ ap (λ (t : List ℕ). t ++ second) one ∙ append_assoc old first second)
+puts_behind how (PowerLost whose) first second old between lines one two =
     (two.0, two.1 ∙ ap (λ (t : List ℕ). t ++ second) one ∙ append_assoc old first second)
 puts_behind how NoMemory first second old between lines one two = put_behind first second old between lines one two
 
@@ -65,29 +68,45 @@ and_more-went :
 and_more-went first more went = ap (λ (w : WorldStep). and_on w first more) went
 
 -- where there is power
-pub left_of : (P Q : Type 0) (answer : WorldStep) → IsPowered answer → IfWent answer P → IfLeft answer P Q
+pub left_of : (P : Type 0) (Q : Side → Type 0) (answer : WorldStep) → IsPowered answer → IfWent answer P → IfLeft answer P Q
 left_of P Q Went powered is = is
-left_of P Q PowerLost powered is = absurd powered
+left_of P Q (PowerLost whose) powered is = absurd powered
 left_of P Q Slip powered is = tt
 left_of P Q Turns powered is = tt
 left_of P Q NumbersSpent powered is = tt
+left_of P Q JournalFull powered is = tt
 left_of P Q NoMemory powered is = tt
 
 -- where it goes on no further
-pub left_none : (P Q : Type 0) (answer : WorldStep) → answer ≢ Went → IsPowered answer → IfLeft answer P Q
+pub left_none : (P : Type 0) (Q : Side → Type 0) (answer : WorldStep) → answer ≢ Went → IsPowered answer
+    → IfLeft answer P Q
 left_none P Q Went stops powered = absurd (stops refl)
-left_none P Q PowerLost stops powered = absurd powered
+left_none P Q (PowerLost whose) stops powered = absurd powered
 left_none P Q Slip stops powered = tt
 left_none P Q Turns stops powered = tt
 left_none P Q NumbersSpent stops powered = tt
+left_none P Q JournalFull stops powered = tt
 left_none P Q NoMemory stops powered = tt
 
-pub went_of : (P Q : Type 0) (answer : WorldStep) → IfLeft answer P Q → IfWent answer P
+-- where a text was put for neither
+pub left_no_more :
+    (P : Type 0) (Q : Side → Type 0) (how : WorldStep) (text old lines : List ℕ) (answer : WorldStep) → how ≢ Went
+    → ((side : Side) → how ≢ PowerLost side) → Puts how text old lines answer → IfLeft answer P Q
+left_no_more P Q how text old lines Went no_went no_loss puts = absurd (no_went puts.0)
+left_no_more P Q how text old lines (PowerLost whose) no_went no_loss puts = absurd (no_loss whose puts.0)
+left_no_more P Q how text old lines Slip no_went no_loss puts = tt
+left_no_more P Q how text old lines Turns no_went no_loss puts = tt
+left_no_more P Q how text old lines NumbersSpent no_went no_loss puts = tt
+left_no_more P Q how text old lines JournalFull no_went no_loss puts = tt
+left_no_more P Q how text old lines NoMemory no_went no_loss puts = tt
+
+pub went_of : (P : Type 0) (Q : Side → Type 0) (answer : WorldStep) → IfLeft answer P Q → IfWent answer P
 went_of P Q Went is = is
-went_of P Q PowerLost is = tt
+went_of P Q (PowerLost whose) is = tt
 went_of P Q Slip is = tt
 went_of P Q Turns is = tt
 went_of P Q NumbersSpent is = tt
+went_of P Q JournalFull is = tt
 went_of P Q NoMemory is = tt
 
 -- a text of a piece has that of its first part in front
@@ -99,11 +118,12 @@ more_text Went first more =
 more_text Slip first more = ([], sym (append-nil (text_of first.entries)))
 more_text Turns first more = ([], sym (append-nil (text_of first.entries)))
 more_text NumbersSpent first more = ([], sym (append-nil (text_of first.entries)))
-more_text PowerLost first more = ([], sym (append-nil (text_of first.entries)))
+more_text JournalFull first more = ([], sym (append-nil (text_of first.entries)))
+more_text (PowerLost whose) first more = ([], sym (append-nil (text_of first.entries)))
 more_text NoMemory first more = ([], sym (append-nil (text_of first.entries)))
 
 -- what a value means as a world, and when it is a dark one
-module _ {V S T : Type 0} (see : V → World S T) (Dark : V → World S T → Type 0) where
+module _ {V S T : Type 0} (see : V → World S T) (Dark : Side → V → World S T → Type 0) where
   pub comes_still : (now : V) (lines : List ℕ) → Comes see Dark (still (see now)) now lines lines Went
   comes_still now lines = record { puts = (refl, sym (append-nil lines)); world = refl }
 
@@ -151,8 +171,12 @@ module _ {V S T : Type 0} (see : V → World S T) (Dark : V → World S T → Ty
       go NumbersSpent stops one =
           subst (λ (p : Piece S T). Comes see Dark p now old lines NumbersSpent)
           (sym (same NumbersSpent one.puts.0 refl)) one
-      go PowerLost stops one =
-          subst (λ (p : Piece S T). Comes see Dark p now old lines PowerLost) (sym (same PowerLost one.puts.0 refl)) one
+      go JournalFull stops one =
+          subst (λ (p : Piece S T). Comes see Dark p now old lines JournalFull)
+          (sym (same JournalFull one.puts.0 refl)) one
+      go (PowerLost whose) stops one =
+          subst (λ (p : Piece S T). Comes see Dark p now old lines (PowerLost whose))
+          (sym (same (PowerLost whose) one.puts.0 refl)) one
       go NoMemory stops one =
           let text = more_text first.went first more in
           record {
@@ -202,7 +226,8 @@ puts_shift how put text old lines answer puts = go answer puts
     go Slip puts = (puts.0, shift put puts.1)
     go Turns puts = (puts.0, shift put puts.1)
     go NumbersSpent puts = (puts.0, shift put puts.1)
-    go PowerLost puts = (puts.0, shift put puts.1)
+    go JournalFull puts = (puts.0, shift put puts.1)
+    go (PowerLost whose) puts = (puts.0, shift put puts.1)
     go NoMemory puts = record {
       front = puts.front;
       rest = puts.rest;
@@ -212,7 +237,7 @@ puts_shift how put text old lines answer puts = go answer puts
     }
 
 pub comes_behind :
-    {V S T : Type 0} (see : V → World S T) (Dark : V → World S T → Type 0) (piece : Piece S T) (new : V)
+    {V S T : Type 0} (see : V → World S T) (Dark : Side → V → World S T → Type 0) (piece : Piece S T) (new : V)
     (text old lines : List ℕ) (answer : WorldStep)
     → Comes see Dark piece new old lines answer → Comes see Dark piece new (text ++ old) (text ++ lines) answer
 comes_behind see Dark piece new text old lines answer one = record {

@@ -1,5 +1,5 @@
--- No event leaves the equipment without power.
-use Rattle.std.proofs.Common.{◌≡◌, ℕ, ◌==◌, Bool, true, false, List, [], ◌∷◌, Option, Some, None, if◌then◌else◌, refl, sym, ap, ◌∙◌}
+-- No event leaves an end without power.
+use Rattle.std.proofs.Common.{◌≡◌, ℕ, ◌==◌, Bool, true, false, List, [], ◌∷◌, Option, Some, None, if◌then◌else◌, refl, sym, ap, subst, ◌∙◌}
 use Rattle.disk_base.specs.declared.cut.CutChoice.{CutChoice}
 use Rattle.gl_base.specs.declared.side.Side.{Side}
 use Rattle.gl_base.specs.declared.side.Side.TheVariants.{Equipment, Host}
@@ -17,20 +17,24 @@ use Rattle.end_pair.specs.declared.answers.WorldStep.{WorldStep}
 use Rattle.end_pair.specs.declared.answers.WorldStep.TheVariants as answer
 use Rattle.end_pair.specs.Run.{piece_of}
 use Rattle.end_pair.specs.Steps.{Stepped, stepped}
-use Rattle.end_pair.specs.World.{Piece, World, after_event, after_events, and_more, and_on, armed, at_start, begun, both_stepped, darkened, ended_by, equipment_stepped, happened, host_stepped, met, most_steps, started_anew, turned_out, with_equipment, with_host, without}
+use Rattle.end_pair.specs.World.{EndAt, Piece, World, after_event, after_events, and_more, and_on, armed, at_start, begun, both_stepped, darkened, ended_by, equipment_makes, equipment_stepped, happened, host_makes, host_stepped, is_to_lose, met, most_steps, restart_of, started_anew, timed, turned_out, with_equipment, with_host, without}
 use Rattle.end_pair.proofs.Causes.{by-cause}
 
 -- where no power is to go none is lost
 pub unplanned :
-    {S C : Type 0} (machine : Machine S C) (side : Side) (now call : ℕ) (choice : CutChoice) (input : Input C) (s : S)
-    (ways : Ways) → (stepped machine side now call false choice input s ways).went ≡ answer.PowerLost → ⊥
-unplanned machine side now call choice input s ways is =
-    let cause = (by-cause machine side now call false choice input s ways).lost.0 is in
-    let not = cause.0 in
+    {S C : Type 0} (machine : Machine S C) (side : Side) (now call : ℕ) (is_cut : Bool) (choice : CutChoice)
+    (input : Input C) (s : S)
+    (ways : Ways) → is_cut ≡ false → (whose : Side)
+    → (stepped machine side now call is_cut choice input s ways).went ≡ answer.PowerLost whose → ⊥
+unplanned machine side now call is_cut choice input s ways none whose is =
+    let causes = by-cause machine side now call is_cut choice input s ways in
+    let same : answer.PowerLost whose ≡ answer.PowerLost side = ap answer.PowerLost (causes.no_other_end whose is) in
+    let planned : is_cut ≡ true = (causes.lost.0 (is ∙ same)).0 in
+    let not = sym planned ∙ none in
     absurd (cc)
 
 abbrev pub IsPoweredPiece : {E H : Type 0} → Piece E H → Type 0
-IsPoweredPiece piece = piece.went ≡ answer.PowerLost → ⊥
+IsPoweredPiece piece = (whose : Side) → piece.went ≡ answer.PowerLost whose → ⊥
 
 powered-then :
     {E H : Type 0} (piece : Piece E H) (rest : World E H → Piece E H) → IsPoweredPiece piece
@@ -42,61 +46,62 @@ powered-then piece rest one two = go piece.went refl
     go answer.Slip is = one
     go answer.Turns is = one
     go answer.NumbersSpent is = one
-    go answer.PowerLost is = one
+    go answer.JournalFull is = one
+    go (answer.PowerLost whose) is = one
     go answer.NoMemory is = one
 
 module _ {E H : Type 0} (e : Machine E ToolCommand) (h : Machine H HostCommand) where
-  -- a step of an equipment whose power isn't to go
-  step-powered :
-      (input : Input ToolCommand) (world : World E H) → world.is_cut ≡ false
+  -- a step of an end whose power isn't to go
+  turn-powered : (world : World E H) (piece : Piece E H) (b : Bool) → IsPoweredPiece piece
+      → IsPoweredPiece (if b then turned_out world else piece)
+  turn-powered world piece true powered whose is = absurd (cc)
+  turn-powered world piece false powered whose is = powered whose is
+
+  step-powered : (input : Input ToolCommand) (world : World E H) → world.is_cut ≡ None
       → IsPoweredPiece (equipment_stepped e h input world)
-  step-powered input world none is = go (world.steps == most_steps) is
+  step-powered input world none =
+      turn-powered world (with_equipment e h world (equipment_makes e h input world)) (world.steps == most_steps)
+      (λ whose is.
+      unplanned e Equipment world.moment world.left (is_to_lose Equipment world.is_cut) world.choice input
+      world.equipment world.ways (ap (is_to_lose Equipment) none) whose is)
+
+  host-powered : (input : Input HostCommand) (world : World E H) → world.is_cut ≡ None
+      → IsPoweredPiece (host_stepped e h input world)
+  host-powered input world none =
+      turn-powered world (with_host e h world (host_makes e h input world)) (world.steps == most_steps)
+      (λ whose is.
+      unplanned h Host world.moment world.host_left (is_to_lose Host world.is_cut) world.choice input world.host
+      world.ways (ap (is_to_lose Host) none) whose is)
+
+  timed-powered : (side : Side) (world : World E H) → world.is_cut ≡ None → IsPoweredPiece (timed e h side world)
+  timed-powered Equipment world none = step-powered Time world none
+  timed-powered Host world none = host-powered Time world none
+
+  pub without-powered : (side : Side) (world : World E H) → IsPoweredPiece (without e h side world)
+  without-powered side world = go (restart_of e h side world)
     where
-      step-with : Bool → Stepped E
-      step-with b = stepped e Equipment world.moment world.left b world.choice input world.equipment world.ways
+      go : (went : Went (EndAt side E H) Happening)
+          → IsPoweredPiece (and_more (started_anew e h side (darkened side world) went) (timed e h side))
+      go (Goes step) = timed-powered side (started_anew e h side (darkened side world) (Goes step)).world refl
+      go (Spent step) = λ whose is. absurd (cc)
 
-      go : (b : Bool)
-          → (if b then turned_out world else with_equipment e h world (step-with world.is_cut)).went
-          ≡ answer.PowerLost → ⊥
-      go true is = absurd (cc)
-      go false is =
-          unplanned e Equipment world.moment world.left world.choice input world.equipment world.ways
-          (ap (λ (b : Bool). (step-with b).went) (sym none) ∙ is)
-
-  host-powered : (input : Input HostCommand) (world : World E H) → IsPoweredPiece (host_stepped e h input world)
-  host-powered input world = go (world.steps == most_steps)
+  ended-powered : (cut : Option Side) (piece : Piece E H) → IsPoweredPiece (ended_by e h cut piece.went piece)
+  ended-powered cut piece = go cut piece.went refl
     where
-      go : (b : Bool)
-          → IsPoweredPiece (if b then turned_out world
-          else with_host e h world
-          (stepped h Host world.moment world.host_left false world.choice input world.host world.ways))
-      go true is = absurd (cc)
-      go false is =
-          unplanned h Host world.moment world.host_left world.choice input world.host world.ways is
+      go : (cut : Option Side) (went : WorldStep) → piece.went ≡ went → IsPoweredPiece (ended_by e h cut went piece)
+      go cut (answer.PowerLost side) is = without-powered side piece.world
+      go (Some side) answer.Went is = without-powered side piece.world
+      go None answer.Went is = λ whose dark. absurd (cc)
+      go cut answer.Slip is = λ whose dark. absurd (cc)
+      go cut answer.Turns is = λ whose dark. absurd (cc)
+      go cut answer.NumbersSpent is = λ whose dark. absurd (cc)
+      go cut answer.JournalFull is = λ whose dark. absurd (cc)
+      go cut answer.NoMemory is = λ whose dark. absurd (cc)
 
-  pub without-powered : (world : World E H) → IsPoweredPiece (without e h world)
-  without-powered world = go (e.restart world.equipment world.moment)
-    where
-      go : (went : Went E Happening)
-          → IsPoweredPiece (and_more (started_anew e h (darkened world) went) (equipment_stepped e h Time))
-      go (Goes step) is = step-powered Time (started_anew e h (darkened world) (Goes step)).world refl is
-      go (Spent step) is = absurd (cc)
-
-  ended-powered : (is_cut : Bool) (piece : Piece E H) → IsPoweredPiece (ended_by e h is_cut piece.went piece)
-  ended-powered is_cut piece = go is_cut piece.went refl
-    where
-      go : (is_cut : Bool) (went : WorldStep) → piece.went ≡ went → IsPoweredPiece (ended_by e h is_cut went piece)
-      go is_cut answer.PowerLost is dark = without-powered piece.world dark
-      go true answer.Went is dark = without-powered piece.world dark
-      go false answer.Went is dark = absurd (cc)
-      go is_cut answer.Slip is dark = absurd (cc)
-      go is_cut answer.Turns is dark = absurd (cc)
-      go is_cut answer.NumbersSpent is dark = absurd (cc)
-      go is_cut answer.NoMemory is dark = absurd (cc)
-
-  met-powered : (event : Event) (cut : Option ℕ) (world : World E H) → IsPoweredPiece (met e h event cut world)
-  met-powered event None world = ended-powered false (happened e h event world)
-  met-powered event (Some call) world = ended-powered true (and_more (armed call world) (happened e h event))
+  met-powered : (event : Event) (cut : Option (Side × ℕ)) (world : World E H) → IsPoweredPiece (met e h event cut world)
+  met-powered event None world = ended-powered None (happened e h event world)
+  met-powered event (Some (side, call)) world =
+      ended-powered (Some side) (and_more (armed side call world) (happened e h event))
 
   pub event-powered : (event : Event) (world : World E H) → IsPoweredPiece (after_event e h event world)
   event-powered (event.To side n) world = met-powered (event.To side n) world.cut world
@@ -107,24 +112,36 @@ module _ {E H : Type 0} (e : Machine E ToolCommand) (h : Machine H HostCommand) 
   event-powered (event.Wait ms) world = met-powered (event.Wait ms) world.cut world
   event-powered (event.Tool command) world = met-powered (event.Tool command) world.cut world
   event-powered (event.Host command) world = met-powered (event.Host command) world.cut world
-  event-powered (event.Cut call choice) world = λ is. cc
+  event-powered (event.Cut call choice) world = λ whose is. cc
+  event-powered (event.HostCut call choice) world = λ whose is. cc
 
   events-powered : (events : List Event) (world : World E H) → IsPoweredPiece (after_events e h events world)
-  events-powered [] world = λ is. cc
+  events-powered [] world = λ whose is. cc
   events-powered (event ∷ events) world =
       powered-then (after_event e h event world) (after_events e h events) (event-powered event world)
       (events-powered events (after_event e h event world).world)
 
+  -- a step of the equipment plans no loss
+  stays-uncut : (input : Input ToolCommand) (world : World E H)
+      → (equipment_stepped e h input world).world.is_cut ≡ world.is_cut
+  stays-uncut input world = go (world.steps == most_steps)
+    where
+      go : (b : Bool)
+          → (if b then turned_out world else with_equipment e h world (equipment_makes e h input world)).world.is_cut
+          ≡ world.is_cut
+      go true = refl
+      go false = refl
+
   pub first-powered : (equipment : Step E Happening) (host : Step H Happening)
       → IsPoweredPiece (both_stepped e h (at_start e h equipment host).world)
   first-powered equipment host =
-      powered-then (equipment_stepped e h Time (at_start e h equipment host).world) (host_stepped e h Time)
-      (step-powered Time (at_start e h equipment host).world refl)
-      (host-powered Time (equipment_stepped e h Time (at_start e h equipment host).world).world)
+      let world = (at_start e h equipment host).world in
+      powered-then (equipment_stepped e h Time world) (host_stepped e h Time) (step-powered Time world refl)
+      (host-powered Time (equipment_stepped e h Time world).world (stays-uncut Time world))
 
   pub run-powered : (equipment : Step E Happening) (host : Step H Happening) (events : List Event)
       → IsPoweredPiece (piece_of e h equipment host events)
   run-powered equipment host events =
       powered-then (begun e h equipment host) (after_events e h events)
-      (powered-then (at_start e h equipment host) (both_stepped e h) (λ is. cc) (first-powered equipment host))
+      (powered-then (at_start e h equipment host) (both_stepped e h) (λ whose is. cc) (first-powered equipment host))
       (events-powered events (begun e h equipment host).world)

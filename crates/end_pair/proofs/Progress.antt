@@ -6,6 +6,7 @@ use Rattle.gl_base.specs.Told.{SinkTold}
 use Rattle.gl_base.specs.declared.copying.SinkAnswer.{SinkAnswer}
 use Rattle.gl_base.specs.declared.copying.SinkAnswer.TheVariants.{Done, Failed}
 use Rattle.gl_base.proofs.Appending.{copies_behind, cut_before, part_before, passes_behind, told, under_way_first}
+use Rattle.gl_base.specs.declared.side.Side.{Side}
 use Rattle.line_schedule.specs.declared.event.Event.{Event}
 use Rattle.trace_log.specs.Log.{Entry}
 use Rattle.trace_log.specs.Log.Entry.{Ended}
@@ -13,7 +14,7 @@ use Rattle.trace_log.specs.Text.{entry_text, text_of}
 use Rattle.end_pair.specs.declared.answers.RunEnd.{RunEnd}
 use Rattle.end_pair.specs.declared.answers.RunEnd.TheVariants as end
 use Rattle.end_pair.specs.declared.answers.WorldStep.{WorldStep}
-use Rattle.end_pair.specs.declared.answers.WorldStep.TheVariants.{Went, Slip, Turns, NumbersSpent, PowerLost, NoMemory}
+use Rattle.end_pair.specs.declared.answers.WorldStep.TheVariants.{Went, Slip, Turns, NumbersSpent, JournalFull, PowerLost, NoMemory}
 use Rattle.end_pair.specs.Kept.{Comes, IfWent, IsPowered, Puts}
 use Rattle.end_pair.specs.Run.{Ends, HandsBack, Runs, closing, whole_log}
 use Rattle.end_pair.specs.World.{Piece, World, and_more, still}
@@ -24,8 +25,8 @@ use Rattle.end_pair.proofs.Pieces.{Leads, comes_behind, comes_stop, leads_done, 
 abbrev pub as_seen : (S T : Type 0) → World S T → World S T
 as_seen S T world = world
 
-abbrev pub NoDark : (S T : Type 0) → World S T → World S T → Type 0
-NoDark S T now left = Unit {0}
+abbrev pub NoDark : (S T : Type 0) → Side → World S T → World S T → Type 0
+NoDark S T side now left = Unit {0}
 
 -- what an event comes to, at the end of which there is power
 pub of_event :
@@ -34,7 +35,7 @@ pub of_event :
     → IfWent answer (world ≡ piece.world) → Comes (as_seen S T) (NoDark S T) piece world old lines answer
 of_event {S} {T} piece world old lines answer powered puts is = record {
   puts = puts;
-  world = left_of (world ≡ piece.world) (NoDark S T world piece.world) answer powered is;
+  world = left_of (world ≡ piece.world) (λ side. NoDark S T side world piece.world) answer powered is;
 }
 
 -- what was sent and what the page holds, the lines behind it, and what is left of the run
@@ -114,6 +115,7 @@ ends_behind {was} {mid} {a} {b} now c text page lines how result under ends = go
     go end.Slip ends = (ends.0, wrote ends.1)
     go end.Turns ends = (ends.0, wrote ends.1)
     go end.NumbersSpent ends = (ends.0, wrote ends.1)
+    go end.JournalFull ends = (ends.0, wrote ends.1)
     go end.NoMemory ends = (ends.0, wrote ends.1)
     go end.WriteFailed short =
         subst (λ (t : List ℕ). WroteShort (told was now a c) t) same
@@ -149,7 +151,8 @@ module _ {S T : Type 0} (whole : Piece S T) where
       go Slip puts = (tail, all puts.1)
       go Turns puts = (tail, all puts.1)
       go NumbersSpent puts = (tail, all puts.1)
-      go PowerLost puts = (tail, all puts.1)
+      go JournalFull puts = (tail, all puts.1)
+      go (PowerLost whose) puts = (tail, all puts.1)
       go NoMemory part = (
         part.rest ++ tail,
         whole_text ∙ ap (λ (t : List ℕ). t ++ tail) (part.whole ∙ ap (λ (t : List ℕ). t ++ part.rest) (sym part.lines))
@@ -180,6 +183,11 @@ module _ {S T : Type 0} (whole : Piece S T) where
       go end.NumbersSpent ends = let puts = puts_as NumbersSpent ends.0 in (
         puts.0,
         text NumbersSpent puts.0 refl puts.1
+            ends.1,
+      )
+      go end.JournalFull ends = let puts = puts_as JournalFull ends.0 in (
+        puts.0,
+        text JournalFull puts.0 refl puts.1
             ends.1,
       )
       go end.NoMemory ends =
@@ -219,7 +227,8 @@ module _ {S T : Type 0} (whole : Piece S T) where
           parts Slip puts = ([], trace_is ∙ sym puts.1 ∙ sym (append-nil all))
           parts Turns puts = ([], trace_is ∙ sym puts.1 ∙ sym (append-nil all))
           parts NumbersSpent puts = ([], trace_is ∙ sym puts.1 ∙ sym (append-nil all))
-          parts PowerLost puts = ([], trace_is ∙ sym puts.1 ∙ sym (append-nil all))
+          parts JournalFull puts = ([], trace_is ∙ sym puts.1 ∙ sym (append-nil all))
+          parts (PowerLost whose) puts = ([], trace_is ∙ sym puts.1 ∙ sym (append-nil all))
           parts NoMemory part = (
             part.rest,
             trace_is ∙ ap (λ (t : List ℕ). sofar ++ t) part.whole ∙ sym (append_assoc sofar part.front part.rest)
@@ -232,6 +241,7 @@ module _ {S T : Type 0} (whole : Piece S T) where
       go end.Slip ends = let puts = puts_as Slip ends.0 in cc
       go end.Turns ends = let puts = puts_as Turns ends.0 in cc
       go end.NumbersSpent ends = let puts = puts_as NumbersSpent ends.0 in cc
+      go end.JournalFull ends = let puts = puts_as JournalFull ends.0 in cc
       go end.NoMemory ends = subst (λ (t : List ℕ). WrotePart out t) (sym more.1) (part_before all more.0 ends.1)
       go end.WriteFailed short = subst (λ (t : List ℕ). WroteShort out t) (sym more.1) (cut_before all more.0 short)
 
@@ -277,7 +287,8 @@ never_began {S} {T} out first more empty page lines slice how result no_lines no
     runs_stop (and_more first more) out first.world lines how result stops
     (comes_stop (as_seen S T) (NoDark S T) first more first.world [] lines how stops (record {
       puts = subst (λ (t : List ℕ). Puts first.went (text_of first.entries) t lines how) no_lines puts;
-      world = left_none (first.world ≡ first.world) (NoDark S T first.world first.world) how stops powered;
+      world = left_none (first.world ≡ first.world) (λ side. NoDark S T side first.world first.world) how stops
+          powered;
     }))
     (subst (λ (t : List ℕ). Ends out t how result) (ap (λ (t : List ℕ). t ++ slice) no_page ∙ is_slice) ends)
 
@@ -335,6 +346,7 @@ kept_back show world out text how end.Whole stops ends = absurd (stops ends.0)
 kept_back show world out text how end.Slip stops ends = tt
 kept_back show world out text how end.Turns stops ends = tt
 kept_back show world out text how end.NumbersSpent stops ends = tt
+kept_back show world out text how end.JournalFull stops ends = tt
 kept_back show world out text how end.NoMemory stops ends = tt
 kept_back show world out text how end.WriteFailed stops ends = tt
 
@@ -344,5 +356,6 @@ kept show world end.Whole other = absurd (other refl)
 kept show world end.Slip other = tt
 kept show world end.Turns other = tt
 kept show world end.NumbersSpent other = tt
+kept show world end.JournalFull other = tt
 kept show world end.NoMemory other = tt
 kept show world end.WriteFailed other = tt

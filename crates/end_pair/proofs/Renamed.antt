@@ -256,6 +256,11 @@ pub renamed-dark : (f : ℕ → ℕ) (side : Side) (ways : Ways)
 renamed-dark f Equipment ways = refl
 renamed-dark f Host ways = refl
 
+pub renaming-dark : (f : ℕ → ℕ) (side : Side) (ways : Ways) → IsRenaming f ways.written
+    → IsRenaming f (without_power side ways).written
+renaming-dark f Equipment ways is = is
+renaming-dark f Host ways is = is
+
 -- ---- slips
 
 names-apart : (f : ℕ → ℕ) (count : ℕ) → IsRenaming f count → (a b : ℕ) → (f a == f b) ≡ (a == b)
@@ -418,30 +423,19 @@ bump-all f count more frames is numbered (c ∷ cs) from =
     ap (λ (d : Character). d ∷ renamed_all (bump f count more) cs) (bump-one f count more frames is numbered c from.0)
     ∙ ap (λ (ds : List Character). renamed_one f c ∷ ds) (bump-all f count more frames is numbered cs from.1)
 
--- where the equipment had written so much in a step, of which nothing went out, the directions without power are those
--- of the line without power
-pub dark-like :
-    (given : Bool) (phase : Phase) (written : List ℕ) (ways : Ways) (line after : Line) (like : IsLike ways line)
-    → StandsFor (without_power Equipment (ways_after Equipment given phase written (renamed like.name ways))) after
-    → IsLike (without_power Equipment ways) after
-dark-like given phase written ways line after like stands = record {
-  name = name;
-  is = bump-renames like.name ways.written (has_frame written) like.is;
-  stands =
-      subst (λ (w : Ways). StandsFor w after) (sym same) stands;
-}
+-- where an end had written so much in a step, of which nothing went out, the directions without power are those of the
+-- line without power
+module _ (given : Bool) (phase : Phase) (written : List ℕ) (ways : Ways) (line after : Line) (like : IsLike ways line)
   where
-    name : ℕ → ℕ
+    abbrev name : ℕ → ℕ
     name = bump like.name ways.written (has_frame written)
 
-    count : line.written ≡ like.name ways.written
-    count = sym like.stands.count
-
-    gathered : renamed_all name ways.to_host.gathered ≡ renamed_all like.name ways.to_host.gathered
-    gathered =
-        bump-all like.name ways.written (has_frame written) line.equipment.frames like.is
-        (subst (AreNumbered line.equipment.frames) count like.stands.to_host.numbered) ways.to_host.gathered
-        like.stands.to_host.gathered_from
+    gathered-same :
+        (frames : List WrittenFrame) (cs : List Character) → AreNumbered frames line.written
+        → AreFrom frames (renamed_all like.name cs) → renamed_all name cs ≡ renamed_all like.name cs
+    gathered-same frames cs numbered from =
+        bump-all like.name ways.written (has_frame written) frames like.is
+        (subst (AreNumbered frames) (sym like.stands.count) numbered) cs from
 
     number : name ways.written ≡ count_after (like.name ways.written) written
     number = go (has_frame written)
@@ -451,13 +445,37 @@ dark-like given phase written ways line after like stands = record {
         go true = bump-above like.name ways.written ways.written (omega arith)
         go false = refl
 
-    same : renamed name (without_power Equipment ways)
-        ≡ without_power Equipment (ways_after Equipment given phase written (renamed like.name ways))
-    same =
-        ap (λ (cs : List Character).
-        with_directions Equipment (way_with [] []) (way_with [] cs) (name ways.written)) gathered
-        ∙ ap (λ (n : ℕ).
-        with_directions Equipment (way_with [] []) (way_with [] (renamed_all like.name ways.to_host.gathered)) n) number
+    -- in one direction nothing is gathered any more
+    without : (side : Side) (gathered other : List Character) (count more : ℕ) → gathered ≡ other → count ≡ more
+        → with_directions side (way_with [] []) (way_with [] gathered) count
+        ≡ with_directions side (way_with [] []) (way_with [] other) more
+    without side gathered other count more same counts =
+        ap (λ (cs : List Character). with_directions side (way_with [] []) (way_with [] cs) count) same
+        ∙ ap (λ (n : ℕ). with_directions side (way_with [] []) (way_with [] other) n) counts
+
+    same : (side : Side)
+        → renamed name (without_power side ways)
+        ≡ without_power side (ways_after side given phase written (renamed like.name ways))
+    same Equipment =
+        without Equipment (renamed_all name ways.to_host.gathered) (renamed_all like.name ways.to_host.gathered)
+        (name ways.written) (count_after (like.name ways.written) written)
+        (gathered-same line.equipment.frames ways.to_host.gathered like.stands.to_host.numbered
+        like.stands.to_host.gathered_from) number
+    same Host =
+        without Host (renamed_all name ways.to_equipment.gathered)
+        (renamed_all like.name ways.to_equipment.gathered) (name ways.written)
+        (count_after (like.name ways.written) written)
+        (gathered-same line.host.frames ways.to_equipment.gathered like.stands.to_equipment.numbered
+        like.stands.to_equipment.gathered_from) number
+
+    pub dark-like : (side : Side)
+        → StandsFor (without_power side (ways_after side given phase written (renamed like.name ways))) after
+        → IsLike (without_power side ways) after
+    dark-like side stands = record {
+      name = name;
+      is = renaming-dark name side ways (bump-renames like.name ways.written (has_frame written) like.is);
+      stands = subst (λ (w : Ways). StandsFor w after) (sym (same side)) stands;
+    }
 
 -- ---- what becomes of characters keeps them alike
 

@@ -8,7 +8,7 @@ use Rattle.line_way.specs.Kept.{direction_to, makes_slip_in}
 use Rattle.line_way.specs.Ways.{Ways}
 use Rattle.message_end.specs.Core.{Went}
 use Rattle.message_end.specs.Core.Went.{Goes, Spent}
-use Rattle.message_end.specs.Ends.{HasGone, HasLost, Input, IsNearer, Loss, Machine, call_of, printed, wrote}
+use Rattle.message_end.specs.Ends.{HasGone, HasLost, HasSpent, Input, IsNearer, Loss, Machine, call_of, printed, wrote}
 use Rattle.message_flow.specs.declared.step.Note.{Note}
 use Rattle.message_flow.specs.declared.step.StepOut.{StepOut}
 use Rattle.trace_log.specs.Laws.{NotesAreLines}
@@ -17,9 +17,9 @@ use Rattle.trace_log.specs.Text.{note_line, text_of}
 use Rattle.end_pair.specs.declared.answers.WorldStep.{WorldStep}
 use Rattle.end_pair.specs.declared.answers.WorldStep.TheVariants as answer
 use Rattle.end_pair.specs.Kept.{IfLeft, IfWent, PutPart, Puts}
-use Rattle.end_pair.specs.Steps.{Stepped, entries_of, gives, made, made_by, slipped, slips, stepped, stopped_at, stopped_for}
-use Rattle.end_pair.proofs.Causes.{never-on}
-use Rattle.end_pair.proofs.Pieces.{put_all}
+use Rattle.end_pair.specs.Steps.{Stepped, entries_of, gives, made, made_by, slipped, slips, spent_for, stepped, stopped_at, stopped_for}
+use Rattle.end_pair.proofs.Causes.{early-powered, never-early, never-on}
+use Rattle.end_pair.proofs.Pieces.{left_no_more, put_all}
 use Rattle.end_pair.proofs.Texts.{noted_text, step_text}
 
 module _ {S C : Type 0} (machine : Machine S C) (side : Side) (now call : ℕ) (is_cut : Bool) (choice : CutChoice)
@@ -112,60 +112,84 @@ module _ {S C : Type 0} (machine : Machine S C) (side : Side) (now call : ℕ) (
       (sym (ap (λ (step : Stepped S). step.calls) (stepped-made none is.passes (machine.act s input now) refl)
       ∙ made-calls (machine.act s input now)))
 
+  -- ---- it ends early
+
+  pub spent_step : NotesAreLines → slips machine side now input s ways ≡ false → IsWhole → (fills : Bool)
+      (out : StepOut) → HasSpent (machine.act s input now) out → machine.fills s input now ≡ fills
+      → (old lines : List ℕ) (result : WorldStep)
+      → Puts (spent_for fills) (flat_map (note_line now side) out.notes) old lines result
+      → Leaves here old lines result
+  spent_step law none whole fills out spent is old lines result puts =
+      subst (λ (step : Stepped S). Leaves step old lines result)
+      (sym (stepped-made none whole (Spent spent.step) spent.is))
+      (subst (λ (b : Bool). Puts (spent_for b) (text_of (entries_of side now spent.step.notes)) old lines result)
+      (sym is)
+      (subst (λ (t : List ℕ). Puts (spent_for fills) t old lines result)
+      (ap (flat_map (note_line now side)) spent.notes ∙ sym (noted_text law side now spent.step.notes)) puts))
+
   -- ---- its disk stops it
 
   pub stop_step : NotesAreLines → slips machine side now input s ways ≡ false
       → (anew : CutChoice → ℕ → Went S Happening) (out : StepOut)
       → HasLost machine (machine.losses s input now) call anew out → (old lines : List ℕ) (result : WorldStep)
-      → Puts (stopped_for is_cut) (flat_map (note_line now side) out.notes) old lines result
+      → Puts (stopped_for side is_cut) (flat_map (note_line now side) out.notes) old lines result
       → Leaves here old lines result
   stop_step law none anew out lost old lines result puts =
       subst (λ (step : Stepped S). Leaves step old lines result) (sym (stepped-lost none lost.loss lost.is))
-      (subst (λ (t : List ℕ). Puts (stopped_for is_cut) t old lines result)
+      (subst (λ (t : List ℕ). Puts (stopped_for side is_cut) t old lines result)
       (ap (flat_map (note_line now side)) lost.notes ∙ sym (noted_text law side now lost.loss.front)) puts)
 
   -- what is left of the end then
   pub stop_left : slips machine side now input s ways ≡ false → (anew : CutChoice → ℕ → Went S Happening)
       (out : StepOut) (Going : Type 0) (text old lines : List ℕ)
       → HasLost machine (machine.losses s input now) call anew out → (result : WorldStep)
-      → Puts (stopped_for is_cut) text old lines result
-      → IfLeft result Going ((later : ℕ) → anew choice later ≡ machine.restart here.end later)
+      → Puts (stopped_for side is_cut) text old lines result
+      → IfLeft result Going (λ whose. (later : ℕ) → anew choice later ≡ machine.restart here.end later)
   stop_left none anew out Going text old lines lost result puts = go result puts
     where
-      go : (result : WorldStep) → Puts (stopped_for is_cut) text old lines result
-          → IfLeft result Going ((later : ℕ) → anew choice later ≡ machine.restart here.end later)
-      go answer.PowerLost puts = λ later.
+      go : (result : WorldStep) → Puts (stopped_for side is_cut) text old lines result
+          → IfLeft result Going (λ whose. (later : ℕ) → anew choice later ≡ machine.restart here.end later)
+      go (answer.PowerLost whose) puts = λ later.
           lost.starts choice later
           ∙ ap (λ (step : Stepped S). machine.restart step.end later) (sym (stepped-lost none lost.loss lost.is))
-      go answer.Went puts = absurd (never-on is_cut puts.0)
+      go answer.Went puts = absurd (never-on side is_cut puts.0)
       go answer.Slip puts = tt
       go answer.Turns puts = tt
       go answer.NumbersSpent puts = tt
+      go answer.JournalFull puts = tt
       go answer.NoMemory puts = tt
 
   -- and of the line
   pub stop_ways : slips machine side now input s ways ≡ false → (anew : CutChoice → ℕ → Went S Happening)
       (out : StepOut) → HasLost machine (machine.losses s input now) call anew out → (result : WorldStep)
-      → IfLeft result (ways ≡ here.ways) (ways ≡ here.ways)
+      → IfLeft result (ways ≡ here.ways) (λ whose. ways ≡ here.ways)
   stop_ways none anew out lost result = go result
     where
       same : ways ≡ here.ways
       same = sym (ap (λ (step : Stepped S). step.ways) (stepped-lost none lost.loss lost.is))
 
-      go : (result : WorldStep) → IfLeft result (ways ≡ here.ways) (ways ≡ here.ways)
-      go answer.PowerLost = same
+      go : (result : WorldStep) → IfLeft result (ways ≡ here.ways) (λ whose. ways ≡ here.ways)
+      go (answer.PowerLost whose) = same
       go answer.Went = same
       go answer.Slip = tt
       go answer.Turns = tt
       go answer.NumbersSpent = tt
+      go answer.JournalFull = tt
       go answer.NoMemory = tt
 
 -- it never goes on
-pub stop_never : (is_cut : Bool) (P : Type 0) (text old lines : List ℕ) (result : WorldStep)
-    → Puts (stopped_for is_cut) text old lines result → IfWent result P
-stop_never is_cut P text old lines answer.Went puts = absurd (never-on is_cut puts.0)
-stop_never is_cut P text old lines answer.PowerLost puts = tt
-stop_never is_cut P text old lines answer.Slip puts = tt
-stop_never is_cut P text old lines answer.Turns puts = tt
-stop_never is_cut P text old lines answer.NumbersSpent puts = tt
-stop_never is_cut P text old lines answer.NoMemory puts = tt
+pub stop_never : (side : Side) (is_cut : Bool) (P : Type 0) (text old lines : List ℕ) (result : WorldStep)
+    → Puts (stopped_for side is_cut) text old lines result → IfWent result P
+stop_never side is_cut P text old lines answer.Went puts = absurd (never-on side is_cut puts.0)
+stop_never side is_cut P text old lines (answer.PowerLost whose) puts = tt
+stop_never side is_cut P text old lines answer.Slip puts = tt
+stop_never side is_cut P text old lines answer.Turns puts = tt
+stop_never side is_cut P text old lines answer.NumbersSpent puts = tt
+stop_never side is_cut P text old lines answer.JournalFull puts = tt
+stop_never side is_cut P text old lines answer.NoMemory puts = tt
+
+-- nor does what ends early, and its power isn't lost
+pub spent_never : (fills : Bool) (P : Type 0) (Q : Side → Type 0) (text old lines : List ℕ) (result : WorldStep)
+    → Puts (spent_for fills) text old lines result → IfLeft result P Q
+spent_never fills P Q text old lines result puts =
+    left_no_more P Q (spent_for fills) text old lines result (never-early fills) (early-powered fills) puts

@@ -35,7 +35,7 @@ pub record Repeats {S T : Type 0}
   pub more : (n m : ℕ) (world : World S T) → n ≡ m + 1 → times n world ≡ and_more (once world) (times m)
   pub none : (n : ℕ) (world : World S T) → Empty world → times n world ≡ still world
 
-module _ {V S T : Type 0} (see : V → World S T) (Dark : V → World S T → Type 0)
+module _ {V S T : Type 0} (see : V → World S T) (Dark : Side → V → World S T → Type 0)
     {once : World S T → Piece S T} {times : ℕ → World S T → Piece S T} {Empty : World S T → Type 0}
     (is : Repeats once times Empty) where
   pub times_done :

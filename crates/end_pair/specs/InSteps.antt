@@ -10,8 +10,9 @@ use Rattle.message_end.specs.InStep.{EndsOnce, HasNoEnd}
 use Rattle.message_end.specs.LineCalls.{calls_in}
 use Rattle.message_end.specs.Moves.{Kind, LinePlans, Move, run_at}
 use Rattle.message_end.specs.Moves.Kind.{Added, Changed, Did, Lost, Started}
+use Rattle.message_end.specs.Starts.{IsStartOf}
+use Rattle.trace_log.specs.Log.{Happening}
 use Rattle.trace_log.specs.Log.Happening.{Power, Wrote}
-use Rattle.trace_log.specs.Names.{Spooled}
 
 -- ---- what an end does in a step
 
@@ -44,17 +45,17 @@ moves_with side moment [] moves = moves
 moves_with side moment (doing ∷ before) moves =
     record { side = side; moment = moment; kind = Did doing } ∷ moves_with side moment before moves
 
-abbrev pub started_at : Side → ℕ → List (ℕ × Spooled) → ℕ → Move
-started_at side moment found base = record { side = side; moment = moment; kind = Started found base }
+abbrev pub started_at : Side → ℕ → Happening → ℕ → Move
+started_at side moment note base = record { side = side; moment = moment; kind = Started note base }
 
--- the world notes that the equipment has lost its power
-abbrev pub power_at : ℕ → Move
-power_at moment = record { side = Equipment; moment = moment; kind = Did (Says Power) }
+-- the world notes that an end has lost its power
+abbrev pub power_at : Side → ℕ → Move
+power_at side moment = record { side = side; moment = moment; kind = Did (Says Power) }
 
 -- what becomes of a character that is under way
 abbrev pub IsFate : Kind → Type 0
 IsFate (Did doing) = ⊥
-IsFate (Started found base) = ⊥
+IsFate (Started note base) = ⊥
 IsFate Lost = Unit {0}
 IsFate (Changed place byte) = Unit {0}
 IsFate (Added byte) = Unit {0}
@@ -81,14 +82,15 @@ pub record IsCutBehind {S T : Type 0}
   pub could : AreAtStates equipment host plans (moves_with side moment later moves)
 
 -- the moves so far come step by step, and no step is under way: both ends start; one end makes a step, to its end; a
--- character under way is lost or changed, or one is added; or the equipment loses its power, in a step or between two,
+-- character under way is lost or changed, or one is added; or an end loses its power, in a step or between two,
 -- which is noted, and starts anew. Both ends are then in states that their doings have made
 pub data AreSteps {S T : Type 0}
     (equipment : ℕ → List Doing → S → Type 0) (host : ℕ → List Doing → T → Type 0) (plans : LinePlans)
     : List Move → Type 0 where
   both_start :
-      (moves : List Move) (found found_there : List (ℕ × Spooled)) (base base_there : ℕ)
-      → moves ≡ started_at Host 0 found_there base_there ∷ started_at Equipment 0 found base ∷ []
+      (moves : List Move) (note note_there : Happening) (base base_there : ℕ)
+      → moves ≡ started_at Host 0 note_there base_there ∷ started_at Equipment 0 note base ∷ []
+      → IsStartOf Equipment note base → IsStartOf Host note_there base_there
       → AreAtStates equipment host plans moves → AreSteps equipment host plans moves
   one_step :
       (moves before : List Move) (side : Side) (moment : ℕ) (done : List Doing)
@@ -100,13 +102,13 @@ pub data AreSteps {S T : Type 0}
       → moves ≡ record { side = side; moment = moment; kind = kind } ∷ before → IsFate kind
       → AreSteps equipment host plans before → AreSteps equipment host plans moves
   starts_anew :
-      (moves cut before : List Move) (moment : ℕ) (found : List (ℕ × Spooled)) (base : ℕ)
-      → moves ≡ started_at Equipment moment found base ∷ power_at moment ∷ cut
-      → IsCutBehind equipment host plans Equipment moment before cut → AreAtStates equipment host plans moves
+      (moves cut before : List Move) (side : Side) (moment : ℕ) (note : Happening) (base : ℕ)
+      → moves ≡ started_at side moment note base ∷ power_at side moment ∷ cut → IsStartOf side note base
+      → IsCutBehind equipment host plans side moment before cut → AreAtStates equipment host plans moves
       → AreSteps equipment host plans before → AreSteps equipment host plans moves
 
--- all moves of a run are such; or the last step is cut short, with which the run ends; or so it is with the equipment's
--- loss of power behind it, where no numbers are left to start anew with
+-- all moves of a run are such; or the last step is cut short, with which the run ends; or so it is with the end's loss
+-- of power behind it, where no numbers are left to start anew with
 pub data ComeInSteps {S T : Type 0}
     (equipment : ℕ → List Doing → S → Type 0) (host : ℕ → List Doing → T → Type 0) (plans : LinePlans)
     (moves : List Move) : Type 0 where
@@ -115,6 +117,6 @@ pub data ComeInSteps {S T : Type 0}
       (before : List Move) (side : Side) (moment : ℕ) → IsCutBehind equipment host plans side moment before moves
       → AreSteps equipment host plans before → ComeInSteps equipment host plans moves
   without_power :
-      (cut before : List Move) (moment : ℕ) → moves ≡ power_at moment ∷ cut
-      → IsCutBehind equipment host plans Equipment moment before cut → AreSteps equipment host plans before
+      (cut before : List Move) (side : Side) (moment : ℕ) → moves ≡ power_at side moment ∷ cut
+      → IsCutBehind equipment host plans side moment before cut → AreSteps equipment host plans before
       → ComeInSteps equipment host plans moves

@@ -20,9 +20,9 @@ use Rattle.trace_log.specs.Log.Entry.{Ended, Noted, Slipped}
 use Rattle.trace_log.specs.declared.commands.HostCommand.{HostCommand}
 use Rattle.trace_log.specs.declared.commands.ToolCommand.{ToolCommand}
 use Rattle.end_pair.specs.declared.answers.WorldStep.{WorldStep}
-use Rattle.end_pair.specs.declared.answers.WorldStep.TheVariants.{NoMemory, NumbersSpent, PowerLost, Slip, Turns, Went}
+use Rattle.end_pair.specs.declared.answers.WorldStep.TheVariants.{JournalFull, NoMemory, NumbersSpent, PowerLost, Slip, Turns, Went}
 use Rattle.end_pair.specs.InSteps.{ComeInSteps}
-use Rattle.end_pair.specs.Run.{piece_of, whole_log}
+use Rattle.end_pair.specs.Run.{piece_of, went_of, whole_log}
 use Rattle.end_pair.specs.Steps.{slips, stepped}
 use Rattle.end_pair.specs.World.{World, most_steps}
 
@@ -70,21 +70,34 @@ abbrev pub AreNotesBefore : List Entry → Type 0
 AreNotesBefore [] = Unit {0}
 AreNotesBefore (newest ∷ before) = AreNotes before
 
--- a run is carried out to the end of its schedule, or it ends for a slip, for want of turns or for spent numbers, and
--- for nothing else; and the newest entry of its log tells whether it was carried out, and whether a slip has ended it
+-- a run is carried out to the end of its schedule, or it ends for a slip, for want of turns, for spent numbers or for a
+-- full store of an end's own, and for nothing else; and the newest entry of its log tells whether it was carried out,
+-- and whether a slip has ended it
 pub record EndsOneWay (went : WorldStep) (log : List Entry) : Type 0 where
-  pub how : (went ≡ Went) ⊎ ((went ≡ Slip) ⊎ ((went ≡ Turns) ⊎ (went ≡ NumbersSpent)))
+  pub how :
+      (went ≡ Went) ⊎ ((went ≡ Slip) ⊎ ((went ≡ Turns) ⊎ ((went ≡ NumbersSpent) ⊎ (went ≡ JournalFull))))
   pub whole : went ≡ Went ↔ OnNewest IsEnd log
   pub slip : went ≡ Slip ↔ OnNewest IsSlip log
   pub notes : AreNotesBefore log
 
 -- so does every run, whatever its ends are
-abbrev pub RunsEndFourWays : Type 0 → Type 0 → Type 0
-RunsEndFourWays E H =
+abbrev pub RunsEndFiveWays : Type 0 → Type 0 → Type 0
+RunsEndFiveWays E H =
     (e : Machine E ToolCommand) (h : Machine H HostCommand) (equipment : Step E Happening)
     (host : Step H Happening) (events : List Event)
     → let piece = piece_of e h equipment host events in
     EndsOneWay piece.went (whole_log piece)
+
+-- in no step does an end find no room in its own store for what it must put
+abbrev pub NeverFills : {S C : Type 0} → Machine S C → Type 0
+NeverFills {S} {C} machine = (s : S) (input : Input C) (now : ℕ) → machine.fills s input now ≡ false
+
+-- so no run of two such ends is ended by a full store
+abbrev pub NeverFull : Type 0 → Type 0 → Type 0
+NeverFull E H =
+    (e : Machine E ToolCommand) (h : Machine H HostCommand) (equipment : Step E Happening)
+    (host : Step H Happening) (events : List Event)
+    → NeverFills e → NeverFills h → went_of e h equipment host events ≢ JournalFull
 
 -- it makes the call of its disk at which that stops
 abbrev pub StopsAt : {S C : Type 0} → Machine S C → Side → ℕ → ℕ → Input C → S → Ways → Type 0
@@ -92,9 +105,16 @@ StopsAt {S} machine side now call input s ways =
     (slips machine side now input s ways ≡ false)
     × ((loss : Loss S) × (call_of call (machine.losses s input now) ≡ Some loss))
 
--- a step ends a run for a slip, for spent numbers, and for a call that its disk has no room for, where there is such a
--- one, or an event for a loss of power at the call that is planned, and never else: a slip goes first, and the disk's
--- call before spent numbers
+-- it ends early where it isn't ended before: no slip goes first, and no call of its disk at which that stops
+abbrev pub EndsEarly : {S C : Type 0} → Machine S C → Side → ℕ → ℕ → Input C → S → Ways → Type 0
+EndsEarly {S} machine side now call input s ways =
+    (slips machine side now input s ways ≡ false)
+    × ((call_of call (machine.losses s input now) ≡ None)
+    × ((step : Step S Happening) × (machine.act s input now ≡ Spent step)))
+
+-- a step ends a run for a slip, for a call that its disk has no room for, where there is such a one, for a full store
+-- of the end's own and for spent numbers, or an event for a loss of power at the call that is planned, and never else:
+-- a slip goes first, and the disk's call before what ends a step early
 pub record EndsByCause {S C : Type 0}
     (machine : Machine S C) (side : Side) (now call : ℕ) (is_cut : Bool) (choice : CutChoice) (input : Input C) (s : S)
     (ways : Ways) : Type 0 where
@@ -102,17 +122,20 @@ pub record EndsByCause {S C : Type 0}
       (stepped machine side now call is_cut choice input s ways).went ≡ Slip
       ↔ slips machine side now input s ways ≡ true
   pub lost :
-      (stepped machine side now call is_cut choice input s ways).went ≡ PowerLost
+      (stepped machine side now call is_cut choice input s ways).went ≡ PowerLost side
       ↔ ((is_cut ≡ true) × StopsAt machine side now call input s ways)
-  pub full :
+  pub crowded :
       (stepped machine side now call is_cut choice input s ways).went ≡ Turns
       ↔ ((is_cut ≡ false) × StopsAt machine side now call input s ways)
   pub spent :
       (stepped machine side now call is_cut choice input s ways).went ≡ NumbersSpent
-      ↔ ((slips machine side now input s ways ≡ false)
-      × ((call_of call (machine.losses s input now) ≡ None)
-      × ((step : Step S Happening) × (machine.act s input now ≡ Spent step))))
+      ↔ (EndsEarly machine side now call input s ways × (machine.fills s input now ≡ false))
+  pub full :
+      (stepped machine side now call is_cut choice input s ways).went ≡ JournalFull
+      ↔ (EndsEarly machine side now call input s ways × (machine.fills s input now ≡ true))
   pub no_other : (stepped machine side now call is_cut choice input s ways).went ≢ NoMemory
+  pub no_other_end :
+      (other : Side) → (stepped machine side now call is_cut choice input s ways).went ≡ PowerLost other → other ≡ side
 
 abbrev pub StepsEndByCause : Type 0 → Type 0 → Type 0
 StepsEndByCause S C =

@@ -13,7 +13,7 @@ use Rattle.trace_log.specs.declared.commands.ToolCommand.{ToolCommand}
 use Rattle.end_pair.specs.declared.answers.RunEnd.{RunEnd}
 use Rattle.end_pair.specs.declared.answers.RunEnd.TheVariants as end
 use Rattle.end_pair.specs.declared.answers.WorldStep.{WorldStep}
-use Rattle.end_pair.specs.declared.answers.WorldStep.TheVariants.{Went, Slip, Turns, NumbersSpent, PowerLost, NoMemory}
+use Rattle.end_pair.specs.declared.answers.WorldStep.TheVariants.{Went, Slip, Turns, NumbersSpent, JournalFull, PowerLost, NoMemory}
 use Rattle.end_pair.specs.World.{Piece, after_events, and_more, begun}
 
 -- a log that nothing has cut short ends with the end
@@ -22,7 +22,8 @@ closing Went now = Ended now ∷ []
 closing Slip now = []
 closing Turns now = []
 closing NumbersSpent now = []
-closing PowerLost now = []
+closing JournalFull now = []
+closing (PowerLost side) now = []
 closing NoMemory now = []
 
 abbrev pub whole_log : {E H : Type 0} → Piece E H → List Entry
@@ -34,6 +35,7 @@ Runs out text how end.Whole = (how ≡ Went) × WroteText out text
 Runs out text how end.Slip = (how ≡ Slip) × WroteText out text
 Runs out text how end.Turns = (how ≡ Turns) × WroteText out text
 Runs out text how end.NumbersSpent = (how ≡ NumbersSpent) × WroteText out text
+Runs out text how end.JournalFull = (how ≡ JournalFull) × WroteText out text
 Runs out text how end.NoMemory = WrotePart out text
 Runs out text how end.WriteFailed = WroteShort out text
 
@@ -43,16 +45,18 @@ Ends out text how end.Whole = (how ≡ Went) × WroteText out text
 Ends out text how end.Slip = (how ≡ Slip) × WroteText out text
 Ends out text how end.Turns = (how ≡ Turns) × WroteText out text
 Ends out text how end.NumbersSpent = (how ≡ NumbersSpent) × WroteText out text
+Ends out text how end.JournalFull = (how ≡ JournalFull) × WroteText out text
 Ends out text how end.NoMemory = (how ≡ NoMemory) × WroteText out text
 Ends out text how end.WriteFailed = WroteShort out text
 
 -- how a run ends where all of its text went out. None ends without power
 abbrev pub end_of : WorldStep → RunEnd
 end_of Went = end.Whole
-end_of PowerLost = end.NoMemory
+end_of (PowerLost side) = end.NoMemory
 end_of Slip = end.Slip
 end_of Turns = end.Turns
 end_of NumbersSpent = end.NumbersSpent
+end_of JournalFull = end.JournalFull
 end_of NoMemory = end.NoMemory
 
 -- the world is handed back exactly where the run was whole, and is this one

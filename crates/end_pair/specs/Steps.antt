@@ -48,7 +48,12 @@ slip_of side now ways =
 abbrev pub entries_of : Side → ℕ → List Happening → List Entry
 entries_of side now noted = log_with now side noted []
 
--- the step goes on, or the numbers are spent and nothing is sent
+-- what ends a step early: the end's own store has no room for what it must put, or its numbers are spent
+abbrev pub spent_for : (fills : Bool) → WorldStep
+spent_for true = answer.JournalFull
+spent_for false = answer.NumbersSpent
+
+-- the step goes on, or ends early and nothing is sent
 abbrev pub made :
     {S C : Type 0} → Machine S C → Side → ℕ → Input C → S → Ways → Went S Happening → Stepped S
 made machine side now input s ways (Goes step) = record {
@@ -62,7 +67,7 @@ made machine side now input s ways (Spent step) = record {
   end = step.next;
   ways = ways;
   entries = entries_of side now step.notes;
-  went = answer.NumbersSpent;
+  went = spent_for (machine.fills s input now);
   calls = length (machine.losses s input now);
 }
 
@@ -77,9 +82,9 @@ slipped side now s ways = record {
 }
 
 -- what ends a step whose disk stops: its power is lost there, or there is no room for the call
-abbrev pub stopped_for : Bool → WorldStep
-stopped_for true = answer.PowerLost
-stopped_for false = answer.Turns
+abbrev pub stopped_for : Side → (is_cut : Bool) → WorldStep
+stopped_for side true = answer.PowerLost side
+stopped_for side false = answer.Turns
 
 -- or its disk stops at a call: what was noted by then stands, and nothing is sent
 abbrev pub stopped_at :
@@ -88,7 +93,7 @@ stopped_at machine side now call is_cut choice input s ways loss = record {
   end = loss.left choice;
   ways = ways;
   entries = entries_of side now loss.front;
-  went = stopped_for is_cut;
+  went = stopped_for side is_cut;
   calls = call;
 }
 

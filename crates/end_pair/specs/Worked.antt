@@ -1,5 +1,5 @@
 -- A run that can be followed by hand: a host that sends one block, to an equipment that takes it, with no layer above.
-use Rattle.std.specs.Prelude.{◌≡◌, zero, suc, ℕ, ◌+◌, List, [], ◌∷◌, ◌++◌, Option, Some, None}
+use Rattle.std.specs.Prelude.{◌≡◌, zero, suc, ℕ, ◌+◌, true, false, List, [], ◌∷◌, ◌++◌, Option, Some, None}
 use Rattle.block_codec.specs.Block.{BlockView}
 use Rattle.disk_base.specs.declared.cut.CutChoice.{CutChoice}
 use Rattle.disk_base.specs.declared.cut.CutChoice.TheVariants.{New, Old}
@@ -12,12 +12,14 @@ use Rattle.line_end.specs.Worked.{are_you_there, its_frame, times_with}
 use Rattle.line_schedule.specs.declared.event.Event.{Event}
 use Rattle.line_schedule.specs.declared.event.Event.TheVariants as event
 use Rattle.message_end.specs.Core.{Step, Went}
-use Rattle.message_end.specs.Core.Went.{Goes}
+use Rattle.message_end.specs.Core.Went.{Goes, Spent}
 use Rattle.message_end.specs.Ends.{Asked, Input, Loss, Machine, none_asked}
 use Rattle.message_end.specs.Ends.Input.{Char, Command, Time}
+use Rattle.message_end.specs.Starts.{bare_start}
 use Rattle.trace_log.specs.Log.{Entry, Happening}
 use Rattle.trace_log.specs.Log.Entry.{Ended, Noted, Slipped}
 use Rattle.trace_log.specs.Log.Happening.{EquipmentStarted, Gone, HostStarted, Power, Stored, Wrote}
+use Rattle.trace_log.specs.declared.commands.HostCommand.{HostCommand}
 use Rattle.end_pair.specs.declared.answers.WorldStep.TheVariants as answer
 use Rattle.end_pair.specs.Run.{log_of, piece_of, went_of}
 use Rattle.end_pair.specs.World.{Piece, after_events, at_start}
@@ -53,6 +55,7 @@ sender = record {
   act = λ s input now. sends s input now;
   restart = λ s now. Goes (record { next = s; notes = []; written = [] });
   line = λ s. s.line;
+  fills = λ s input now. false;
   stops = λ s input now. [];
   start_stops = [];
   asks = λ s input now. none_asked;
@@ -61,18 +64,18 @@ sender = record {
   start_calls = λ s. 0;
 }
 
-abbrev pub begins : Side → Option BlockView → Happening → Step Sender Happening
-begins side unsent start = record {
+abbrev pub begins : Side → Option BlockView → Step Sender Happening
+begins side unsent = record {
   next = record { line = new_state side (times_with 3); unsent = unsent };
-  notes = start ∷ [];
+  notes = bare_start side 0 ∷ [];
   written = [];
 }
 
 abbrev pub equipment : Step Sender Happening
-equipment = begins Equipment None (EquipmentStarted [] 0)
+equipment = begins Equipment None
 
 abbrev pub host : Step Sender Happening
-host = begins Host (Some are_you_there) HostStarted
+host = begins Host (Some are_you_there)
 
 -- ENQ, EOT, 13 characters of the frame, ACK
 abbrev pub events : List Event
@@ -87,7 +90,7 @@ replaced =
 abbrev pub first_entries : List Entry
 first_entries =
     Noted 0 Host (Wrote its_frame) ∷ Noted 0 Equipment (Wrote (4 ∷ [])) ∷ Noted 0 Host (Wrote (5 ∷ []))
-    ∷ Noted 0 Host HostStarted ∷ Noted 0 Equipment (EquipmentStarted [] 0) ∷ []
+    ∷ Noted 0 Host (HostStarted None) ∷ Noted 0 Equipment (EquipmentStarted [] 0) ∷ []
 
 -- the block arrives, and the host takes its ACK: 18 steps. With the noise in it, it is a slip, and nothing follows
 pub record WorkedRuns : Type 0 where
@@ -122,12 +125,18 @@ abbrev pub counter_losses : ℕ → ℕ → List (Loss Counter)
 counter_losses count zero = []
 counter_losses count (suc n) = record { front = Gone count ∷ []; left = counted_left count } ∷ []
 
+-- it tells its count as the base of its numbers
+abbrev pub counts_on : Side → ℕ → Happening
+counts_on Equipment count = EquipmentStarted [] count
+counts_on Host count = HostStarted (Some (record { found = []; base = count }))
+
 abbrev pub counter : {C : Type 0} → Side → Machine Counter C
 counter side = record {
   act = λ s input now. counted s s.awake;
   restart =
-      λ s now. Goes (record { next = record s { awake = 0 }; notes = EquipmentStarted [] s.count ∷ []; written = [] });
+      λ s now. Goes (record { next = record s { awake = 0 }; notes = counts_on side s.count ∷ []; written = [] });
   line = λ s. new_state side (times_with 3);
+  fills = λ s input now. false;
   stops = λ s input now. [];
   start_stops = [];
   asks = λ s input now. counter_asks s.awake;
@@ -137,13 +146,23 @@ counter side = record {
   start_calls = λ s. 65535;
 }
 
-abbrev pub counts_from : Happening → Step Counter Happening
-counts_from what = record { next = record { count = 0; awake = 1 }; notes = what ∷ []; written = [] }
+abbrev pub counts_from : Side → Step Counter Happening
+counts_from side = record { next = record { count = 0; awake = 1 }; notes = counts_on side 0 ∷ []; written = [] }
+
+-- a counter whose disk has no room for the count
+abbrev pub full_counter : {C : Type 0} → Machine Counter C
+full_counter = record (counter Host) {
+  act = λ s input now. Spent (record { next = s; notes = []; written = [] });
+  fills = λ s input now. true;
+}
+
+abbrev pub counters_with : Machine Counter HostCommand → List Event → Piece Counter Counter
+counters_with host events =
+    after_events (counter Equipment) host events
+    (at_start (counter Equipment) host (counts_from Equipment) (counts_from Host)).world
 
 abbrev pub counters_after : List Event → Piece Counter Counter
-counters_after events =
-    after_events (counter Equipment) (counter Host) events
-    (at_start (counter Equipment) (counter Host) (counts_from (EquipmentStarted [] 0)) (counts_from HostStarted)).world
+counters_after = counters_with (counter Host)
 
 -- the power goes at the call of a wait, and the host doesn't wait: the store is done by `new` alone; a cut in front of
 -- another one is replaced; where nothing is stored power is lost at the end of the event; and the last one does
@@ -176,3 +195,34 @@ pub record WorkedLosses : Type 0 where
       (counters_after (event.Wait 5 ∷ event.Cut 1 New ∷ event.Wait 5 ∷ [])).entries
       ≡ Noted 10 Equipment (EquipmentStarted [] 2) ∷ Noted 10 Equipment Power ∷ Noted 10 Equipment (Gone 1)
       ∷ Noted 5 Host (Stored 0) ∷ Noted 5 Equipment (Stored 0) ∷ []
+
+-- so it is with the host's: the equipment has made its step of a wait by then. Of two cuts the later one counts,
+-- whichever ends they name; and at the event's end the line is emptied both ways
+pub record WorkedHostLosses : Type 0 where
+  pub done :
+      (counters_after (event.HostCut 1 New ∷ event.Wait 5 ∷ [])).entries
+      ≡ Noted 5 Host (counts_on Host 1) ∷ Noted 5 Host Power ∷ Noted 5 Host (Gone 0) ∷ Noted 5 Equipment (Stored 0)
+      ∷ []
+  pub steps : (counters_after (event.HostCut 1 New ∷ event.Wait 5 ∷ [])).world.steps ≡ 3
+  pub replaced :
+      (counters_after (event.HostCut 1 New ∷ event.Cut 1 New ∷ event.Wait 5 ∷ [])).entries
+      ≡ (counters_after (event.Cut 1 New ∷ event.Wait 5 ∷ [])).entries
+  pub replaces :
+      (counters_after (event.Cut 1 New ∷ event.HostCut 1 New ∷ event.Wait 5 ∷ [])).entries
+      ≡ (counters_after (event.HostCut 1 New ∷ event.Wait 5 ∷ [])).entries
+  pub behind :
+      (counters_after (event.Add Host 7 ∷ event.HostCut 1 New ∷ event.Add Equipment 7 ∷ [])).entries
+      ≡ Noted 0 Host (counts_on Host 0) ∷ Noted 0 Host Power ∷ []
+  pub emptied :
+      (counters_after (event.Add Host 7 ∷ event.HostCut 1 New ∷ event.Add Equipment 7 ∷ [])).world.ways
+      ≡ (counters_after []).world.ways
+  -- the calls of the equipment's disk count on: it has room for one more in all
+  pub counted_on :
+      (counters_after (event.Wait 5 ∷ event.HostCut 1 New ∷ event.Lose Host 1 ∷ event.Wait 5 ∷ [])).entries
+      ≡ Noted 10 Equipment (Gone 1) ∷ Noted 5 Host (counts_on Host 1) ∷ Noted 5 Host Power ∷ Noted 5 Host (Stored 0)
+      ∷ Noted 5 Equipment (Stored 0) ∷ []
+  -- a step that fills its store ends the run, where its disk isn't stopped before
+  pub full : (counters_with full_counter (event.Wait 5 ∷ [])).went ≡ answer.JournalFull
+  pub lost :
+      (counters_with full_counter (event.HostCut 1 New ∷ event.Wait 5 ∷ [])).entries
+      ≡ (counters_after (event.HostCut 1 New ∷ event.Wait 5 ∷ [])).entries

@@ -4,6 +4,7 @@ use Rattle.disk_base.specs.declared.cut.CutChoice.{CutChoice}
 use Rattle.disk_base.specs.declared.cut.CutChoice.TheVariants.{Old}
 use Rattle.gl_base.specs.declared.side.Side.{Side}
 use Rattle.gl_base.specs.declared.side.Side.TheVariants.{Equipment, Host}
+use Rattle.gl_base.specs.Side.{is_same_side}
 use Rattle.line_schedule.specs.declared.event.Event.{Event}
 use Rattle.line_schedule.specs.declared.event.Event.TheVariants as event
 use Rattle.line_way.specs.Kept.{direction_to, new_ways, with_change, with_direction, with_noise_to, without_power}
@@ -18,23 +19,23 @@ use Rattle.trace_log.specs.Log.Happening.{Power}
 use Rattle.trace_log.specs.declared.commands.HostCommand.{HostCommand}
 use Rattle.trace_log.specs.declared.commands.ToolCommand.{ToolCommand}
 use Rattle.end_pair.specs.declared.answers.WorldStep.{WorldStep}
-use Rattle.end_pair.specs.declared.answers.WorldStep.TheVariants.{Went, Slip, Turns, NumbersSpent, PowerLost, NoMemory}
+use Rattle.end_pair.specs.declared.answers.WorldStep.TheVariants.{Went, Slip, Turns, NumbersSpent, JournalFull, PowerLost, NoMemory}
 use Rattle.end_pair.specs.Steps.{Stepped, entries_of, stepped}
 
 -- both ends, both directions of the line between them, the moment in milliseconds, and how many steps the ends have
--- made; at which call of the equipment's disk, counted from 1, the next event ends the power, where it does; how many
--- calls of each end's disk are left up to the one at which it stops, itself counted; whether the equipment's power goes
--- there, or there is no room for it; and what a loss of power leaves of the disk
+-- made; which end's power goes in the next event, and at which call of its disk, counted from 1, where any goes; how
+-- many calls of each end's disk are left up to the one at which it stops, itself counted; the end whose power goes
+-- there, where it isn't for want of room that its disk stops; and what a loss of power leaves of the disk
 pub record World (E H : Type 0) : Type 0 where
   pub equipment : E
   pub host : H
   pub ways : Ways
   pub moment : ℕ
   pub steps : ℕ
-  pub cut : Option ℕ
+  pub cut : Option (Side × ℕ)
   pub left : ℕ
   pub host_left : ℕ
-  pub is_cut : Bool
+  pub is_cut : Option Side
   pub choice : CutChoice
 
 -- what some of a run leaves: the world, the entries that were made, the newest first, and how it went
@@ -58,7 +59,8 @@ and_on Went piece more =
 and_on Slip piece more = piece
 and_on Turns piece more = piece
 and_on NumbersSpent piece more = piece
-and_on PowerLost piece more = piece
+and_on JournalFull piece more = piece
+and_on (PowerLost side) piece more = piece
 and_on NoMemory piece more = piece
 
 abbrev pub and_more : {E H : Type 0} → Piece E H → (World E H → Piece E H) → Piece E H
@@ -98,16 +100,57 @@ added_to side byte world = record world { ways = with_noise_to side byte world.w
 abbrev pub later : {E H : Type 0} → ℕ → World E H → World E H
 later ms world = record world { moment = world.moment + ms }
 
--- the equipment has no power: the line is empty both ways, but frames go on to be numbered, and what the host has
--- gathered stays with it
-abbrev pub darkened : {E H : Type 0} → World E H → World E H
-darkened world = record world { ways = without_power Equipment world.ways }
+-- ---- the power
 
--- the power is to go at this call of the equipment's disk, if that comes no later than the one at which it stops
-abbrev pub armed : {E H : Type 0} → ℕ → World E H → Piece E H
-armed call world =
-    let within = nat_le call world.left in
-    still (record world { cut = None; left = if within then call else world.left; is_cut = within })
+-- this end is the one whose power goes
+abbrev pub is_to_lose : Side → Option Side → Bool
+is_to_lose side None = false
+is_to_lose side (Some other) = is_same_side side other
+
+-- an end has no power: the line is empty both ways, but frames go on to be numbered, and what the other end has
+-- gathered stays with it
+abbrev pub darkened : {E H : Type 0} → Side → World E H → World E H
+darkened side world = record world { ways = without_power side world.ways }
+
+-- what this end has, of what the equipment and the host have
+abbrev pub of_side : {X : Type 0} → Side → (equipment host : X) → X
+of_side Equipment equipment host = equipment
+of_side Host equipment host = host
+
+abbrev pub EndAt : Side → Type 0 → Type 0 → Type 0
+EndAt Equipment E H = E
+EndAt Host E H = H
+
+-- the equipment, or the host, where this end is now that one
+abbrev pub equipment_with : (E H : Type 0) (side : Side) → EndAt side E H → E → E
+equipment_with E H Equipment end equipment = end
+equipment_with E H Host end equipment = equipment
+
+abbrev pub host_with : (E H : Type 0) (side : Side) → EndAt side E H → H → H
+host_with E H Equipment end host = host
+host_with E H Host end host = end
+
+-- so many calls of its disk are left
+abbrev pub calls_left_at : {E H : Type 0} → Side → World E H → ℕ
+calls_left_at side world = of_side side world.left world.host_left
+
+abbrev pub with_left : {E H : Type 0} → Side → ℕ → World E H → World E H
+with_left side n world =
+    record world { left = of_side side n world.left; host_left = of_side side world.host_left n }
+
+-- its power is to go in the next event, and that of no other
+abbrev pub planned : {E H : Type 0} → Side → ℕ → CutChoice → World E H → World E H
+planned side call choice world = record world { cut = Some (side, call); choice = choice }
+
+-- it is to go at this call of its disk, if that comes no later than the one at which it stops
+abbrev pub armed : {E H : Type 0} → Side → ℕ → World E H → Piece E H
+armed side call world =
+    let within = nat_le call (calls_left_at side world) in
+    still
+    (record (with_left side (if within then call else calls_left_at side world) world) {
+      cut = None;
+      is_cut = if within then Some side else None;
+    })
 
 module _ {E H : Type 0} (e : Machine E ToolCommand) (h : Machine H HostCommand) where
   -- both ends have started, the equipment first
@@ -123,14 +166,14 @@ module _ {E H : Type 0} (e : Machine E ToolCommand) (h : Machine H HostCommand) 
           cut = None;
           left = calls_left e equipment.next;
           host_left = calls_left h host.next;
-          is_cut = false;
+          is_cut = None;
           choice = Old;
         };
     entries = log_with 0 Host host.notes (log_with 0 Equipment equipment.notes []);
     went = Went;
   }
 
-  -- a step of the equipment, or of the host, is one of all steps. Only the equipment's power may go
+  -- a step of the equipment, or of the host, is one of all steps
   abbrev pub with_equipment : World E H → Stepped E → Piece E H
   with_equipment world step = record {
     world =
@@ -169,16 +212,23 @@ module _ {E H : Type 0} (e : Machine E ToolCommand) (h : Machine H HostCommand) 
     went = step.went;
   }
 
+  abbrev pub equipment_makes : Input ToolCommand → World E H → Stepped E
+  equipment_makes input world =
+      stepped e Equipment world.moment world.left (is_to_lose Equipment world.is_cut) world.choice input
+      world.equipment world.ways
+
   abbrev pub equipment_stepped : Input ToolCommand → World E H → Piece E H
   equipment_stepped input world =
-      if world.steps == most_steps then turned_out world
-      else with_equipment world
-      (stepped e Equipment world.moment world.left world.is_cut world.choice input world.equipment world.ways)
+      if world.steps == most_steps then turned_out world else with_equipment world (equipment_makes input world)
+
+  abbrev pub host_makes : Input HostCommand → World E H → Stepped H
+  host_makes input world =
+      stepped h Host world.moment world.host_left (is_to_lose Host world.is_cut) world.choice input world.host
+      world.ways
 
   abbrev pub host_stepped : Input HostCommand → World E H → Piece E H
   host_stepped input world =
-      if world.steps == most_steps then turned_out world
-      else with_host world (stepped h Host world.moment world.host_left false world.choice input world.host world.ways)
+      if world.steps == most_steps then turned_out world else with_host world (host_makes input world)
 
   -- the character is given to an end
   abbrev pub given_to : Side → ℕ → World E H → Piece E H
@@ -223,61 +273,73 @@ module _ {E H : Type 0} (e : Machine E ToolCommand) (h : Machine H HostCommand) 
   happened (event.Wait ms) world = both_stepped (later ms world)
   happened (event.Tool command) world = equipment_stepped (Command command) world
   happened (event.Host command) world = host_stepped (Command command) world
-  happened (event.Cut call choice) world = still (record world { cut = Some call; choice = choice })
+  happened (event.Cut call choice) world = still (planned Equipment call choice world)
+  happened (event.HostCut call choice) world = still (planned Host call choice world)
 
-  -- that it has lost its power is noted, and the equipment starts anew at the same moment with what is left of it, if
-  -- there are numbers to start with. What its disk has made before counts no more
-  abbrev pub started_anew : World E H → WentTo E Happening → Piece E H
-  started_anew world (Goes step) = record {
-    world =
-        record {
-          equipment = step.next;
-          host = world.host;
-          ways = world.ways;
-          moment = world.moment;
-          steps = world.steps;
-          cut = world.cut;
-          left = calls_left e step.next;
-          host_left = world.host_left;
-          is_cut = false;
-          choice = world.choice;
-        };
-    entries = entries_of Equipment world.moment (Power ∷ step.notes);
+  -- an end has started anew: its disk has made no calls but those of the start, and none is planned
+  abbrev pub calls_left_of : (side : Side) → EndAt side E H → ℕ
+  calls_left_of Equipment end = calls_left e end
+  calls_left_of Host end = calls_left h end
+
+  abbrev pub with_started : (side : Side) → EndAt side E H → World E H → World E H
+  with_started side end world =
+      record (with_left side (calls_left_of side end) world) {
+        equipment = equipment_with E H side end world.equipment;
+        host = host_with E H side end world.host;
+        is_cut = None;
+      }
+
+  -- that an end has lost its power is noted, and it starts anew at the same moment with what is left of it, if there
+  -- are numbers to start with
+  abbrev pub started_anew : (side : Side) → World E H → WentTo (EndAt side E H) Happening → Piece E H
+  started_anew side world (Goes step) = record {
+    world = with_started side step.next world;
+    entries = entries_of side world.moment (Power ∷ step.notes);
     went = Went;
   }
-  started_anew world (Spent step) = record {
+  started_anew side world (Spent step) = record {
     world = world;
-    entries = entries_of Equipment world.moment (Power ∷ step.notes);
+    entries = entries_of side world.moment (Power ∷ step.notes);
     went = NumbersSpent;
   }
 
-  abbrev pub again : World E H → Piece E H
-  again world = started_anew (darkened world) (e.restart world.equipment world.moment)
+  abbrev pub restart_of : (side : Side) → World E H → WentTo (EndAt side E H) Happening
+  restart_of Equipment world = e.restart world.equipment world.moment
+  restart_of Host world = h.restart world.host world.moment
+
+  abbrev pub again : Side → World E H → Piece E H
+  again side world = started_anew side (darkened side world) (restart_of side world)
 
   -- and makes a step
-  abbrev pub without : World E H → Piece E H
-  without world = and_more (again world) (equipment_stepped Time)
+  abbrev pub timed : Side → World E H → Piece E H
+  timed Equipment world = equipment_stepped Time world
+  timed Host world = host_stepped Time world
+
+  abbrev pub without : Side → World E H → Piece E H
+  without side world = and_more (again side world) (timed side)
 
   -- power that is lost in an event is lost for the rest of it, which isn't carried out; where the disk is asked less
   -- often than planned, it is lost at the event's end
-  abbrev pub ended_by : (is_cut : Bool) → WorldStep → Piece E H → Piece E H
-  ended_by is_cut PowerLost piece = and_on Went piece without
-  ended_by true Went piece = and_on Went piece without
-  ended_by false Went piece = piece
-  ended_by is_cut Slip piece = piece
-  ended_by is_cut Turns piece = piece
-  ended_by is_cut NumbersSpent piece = piece
-  ended_by is_cut NoMemory piece = piece
+  abbrev pub ended_by : (cut : Option Side) → WorldStep → Piece E H → Piece E H
+  ended_by cut (PowerLost side) piece = and_on Went piece (without side)
+  ended_by (Some side) Went piece = and_on Went piece (without side)
+  ended_by None Went piece = piece
+  ended_by cut Slip piece = piece
+  ended_by cut Turns piece = piece
+  ended_by cut NumbersSpent piece = piece
+  ended_by cut JournalFull piece = piece
+  ended_by cut NoMemory piece = piece
 
   -- a cut ends the power in the next event that isn't a cut itself
-  abbrev pub met : Event → Option ℕ → World E H → Piece E H
-  met one None world = let piece = happened one world in ended_by false piece.went piece
-  met one (Some call) world =
-      let piece = and_more (armed call world) (happened one) in ended_by true piece.went piece
+  abbrev pub met : Event → Option (Side × ℕ) → World E H → Piece E H
+  met one None world = let piece = happened one world in ended_by None piece.went piece
+  met one (Some (side, call)) world =
+      let piece = and_more (armed side call world) (happened one) in ended_by (Some side) piece.went piece
 
-  -- a cut in front of another one is replaced by it, and the last one does nothing
+  -- a cut in front of another one, of either end, is replaced by it, and the last one does nothing
   abbrev pub after_event : Event → World E H → Piece E H
   after_event (event.Cut call choice) world = happened (event.Cut call choice) world
+  after_event (event.HostCut call choice) world = happened (event.HostCut call choice) world
   after_event one world = met one world.cut world
 
   -- one event after the other, as long as it goes on

@@ -1,5 +1,7 @@
 //! How a run ends, and how a world answers each event of its schedule.
 
+use gl_base::Side;
+
 /// How a run ended.
 #[derive(Clone, Copy, Debug, PartialEq, Eq)]
 pub enum RunEnd {
@@ -12,6 +14,8 @@ pub enum RunEnd {
     Turns,
     /// The trace was written up to the step in which an end was to draw a number and had none.
     NumbersSpent,
+    /// The trace was written up to the step in which an end was to list a message in its journal, and that had no room.
+    JournalFull,
     /// Memory ran out. A part of the trace from the front was written.
     NoMemory,
     /// The output failed. A part of the trace from the front was written.
@@ -29,8 +33,10 @@ pub enum WorldStep {
     Turns,
     /// An end was to draw a number, and had none.
     NumbersSpent,
-    /// The equipment has lost its power at a call of its disk. No event ends so.
-    PowerLost,
+    /// An end was to list a message in its journal, and that had no room.
+    JournalFull,
+    /// An end has lost its power at a call of its disk. No event ends so.
+    PowerLost(Side),
     /// Memory ran out.
     NoMemory,
 }

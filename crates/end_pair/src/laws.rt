@@ -6,11 +6,11 @@ ghost use Rattle.message_end.specs.Core.{step_in};
 ghost use Rattle.message_end.specs.Ends.{Opens};
 ghost use Rattle.message_end.specs.Moves.{LinePlans};
 ghost use Rattle.end_pair.specs.Kept.{MayHappen};
-ghost use Rattle.end_pair.specs.Laws.{AreOnLine, HasBytes, IsOfMoves, RunsAreBounded, RunsEndFourWays, StepsEndByCause};
+ghost use Rattle.end_pair.specs.Laws.{AreOnLine, HasBytes, IsOfMoves, NeverFull, RunsAreBounded, RunsEndFiveWays, StepsEndByCause};
 ghost use Rattle.end_pair.specs.Noted.{EntriesAreOfCourses};
 ghost use Rattle.end_pair.specs.Run.{log_of};
 ghost use Rattle.end_pair.specs.TurnCauses.{TurnsEndByCause};
-ghost use Rattle.end_pair.specs.Worked.{WorkedLosses, WorkedRuns};
+ghost use Rattle.end_pair.specs.Worked.{WorkedHostLosses, WorkedLosses, WorkedRuns};
 ghost use Rattle.end_pair.specs.WorkedSteps.{StepsEndOnce};
 
 use message_end::End;
@@ -22,16 +22,21 @@ pub fn runs_are_bounded<E: End<Command = ToolCommand>, H: End<Command = HostComm
     ensures { RunsAreBounded E.State H.State }
 {}
 
-/// A run is carried out to the end of its schedule, or it ends for a slip, for want of turns or for spent numbers, and
-/// for nothing else. Its log ends with the end exactly where it is carried out, and with a slip exactly where one has
-/// ended it; all entries before are notes.
-pub fn runs_end_four_ways<E: End<Command = ToolCommand>, H: End<Command = HostCommand>>()
-    ensures { RunsEndFourWays E.State H.State }
+/// A run is carried out to the end of its schedule, or it ends for a slip, for want of turns, for spent numbers or for
+/// a full store of an end's own, and for nothing else. Its log ends with the end exactly where it is carried out, and
+/// with a slip exactly where one has ended it; all entries before are notes.
+pub fn runs_end_five_ways<E: End<Command = ToolCommand>, H: End<Command = HostCommand>>()
+    ensures { RunsEndFiveWays E.State H.State }
+{}
+
+/// No run is ended by a full store where neither end has a step that finds no room in its own for what it must put.
+pub fn never_full<E: End<Command = ToolCommand>, H: End<Command = HostCommand>>()
+    ensures { NeverFull E.State H.State }
 {}
 
 /// A step of an end ends a run exactly where a slip is found before it, where it comes to a call that its disk has no
-/// room for, or where the end was to draw a number and had none; and it loses its power exactly where it comes to the
-/// call of its disk that is planned.
+/// room for, where the end's own store has no room for what it must put, or where the end was to draw a number and had
+/// none; and its end, and no other, loses its power exactly where it comes to the call of its disk that is planned.
 pub fn steps_end_by_cause<E: End>()
     ensures { StepsEndByCause E.State E.Command }
 {}
@@ -50,7 +55,7 @@ pub fn runs_are_moves<E: End<Command = ToolCommand>, H: End<Command = HostComman
         → E.fits equipment → H.fits host → E.holds equipment_store → H.holds host_store
         → Opens (E.start equipment equipment_store) → Opens (H.start host host_store)
         → AreOnLine plans (E.plan_of equipment) (H.plan_of host)
-        → All (MayHappen E.takes H.takes E.loses) events → All HasBytes events
+        → All (MayHappen E.takes H.takes E.loses H.loses) events → All HasBytes events
         → IsOfMoves
         (E.did equipment)
         (H.did host)
@@ -75,6 +80,11 @@ pub fn worked_runs()
 /// Losses of power that can be followed by hand, of an equipment that stores a count.
 pub fn worked_losses()
     ensures { WorkedLosses }
+{}
+
+/// Losses of the host's power beside it, and a store that is full.
+pub fn worked_host_losses()
+    ensures { WorkedHostLosses }
 {}
 
 /// What is one step of an end, and what isn't: one without its end, and two with one end.

@@ -11,8 +11,9 @@ mod world;
 
 pub use answers::{RunEnd, WorldStep};
 pub use laws::{
-    entries_are_of_courses, runs_are_bounded, runs_are_moves, runs_end_four_ways,
-    steps_end_by_cause, turns_end_by_cause, worked_losses, worked_runs, worked_steps,
+    entries_are_of_courses, never_full, runs_are_bounded, runs_are_moves, runs_end_five_ways,
+    steps_end_by_cause, turns_end_by_cause, worked_host_losses, worked_losses, worked_runs,
+    worked_steps,
 };
 pub use running::run;
 pub use world::World;

@@ -14,23 +14,23 @@ ghost use Rattle.end_pair.specs.Run.{Ends, HandsBack, Runs, end_of, piece_of, tr
 use crate::answers::{RunEnd, WorldStep};
 use crate::world::World;
 use gl_base::{NoMemory, Page, Row, Sink, SinkAnswer};
-use line_schedule::Schedule;
+use line_schedule::Event;
 use message_end::End;
 use std::alloc::Global;
 use trace_log::{HostCommand, ToolCommand, put_end};
 
-/// Carries out a schedule on the line between two ends, and writes the trace of what both note. Hands the world back
-/// exactly where it answers `Whole`.
+/// Carries out the events of a schedule on the line between two ends, and writes the trace of what both note. Hands the
+/// world back exactly where it answers `Whole`.
 ///
 /// The plans must fit, the stores hold, there must be numbers to start with, and each event must be one that may
-/// happen: power is lost only with an equipment that has a disk.
+/// happen: an end loses its power only where it has a disk.
 pub fn run<E: End<Command = ToolCommand>, H: End<Command = HostCommand>, W: Sink>(
     alloc: Global,
     equipment: &E::Plan,
     equipment_store: E::Store,
     host: &H::Plan,
     host_store: H::Store,
-    schedule: &Schedule,
+    events: &[Event],
     out: &mut W,
 ) -> (RunEnd, Option<World<E, H>>)
     requires equipment { E.fits equipment.now }
@@ -39,21 +39,21 @@ pub fn run<E: End<Command = ToolCommand>, H: End<Command = HostCommand>, W: Sink
     requires host_store { H.holds host_store }
     requires equipment_opens { Opens (E.start equipment.now equipment_store) }
     requires host_opens { Opens (H.start host.now host_store) }
-    requires events { All (MayHappen E.takes H.takes E.loses) schedule.now.events }
+    requires events { All (MayHappen E.takes H.takes E.loses H.loses) events.now }
     ensures text { Runs
         (sink_told W.Sink out.old out.new)
         (trace_text E.machine H.machine
         (step_in (E.start equipment.now equipment_store)) (step_in (H.start host.now host_store))
-        schedule.now.events)
+        events.now)
         (went_of E.machine H.machine
         (step_in (E.start equipment.now equipment_store)) (step_in (H.start host.now host_store))
-        schedule.now.events)
+        events.now)
         result.0 }
     ensures world { HandsBack
         (seen E.means H.means)
         (piece_of E.machine H.machine
         (step_in (E.start equipment.now equipment_store)) (step_in (H.start host.now host_store))
-        schedule.now.events).world
+        events.now).world
         result.0
         result.1 }
 {
@@ -70,7 +70,7 @@ pub fn run<E: End<Command = ToolCommand>, H: End<Command = HostCommand>, W: Sink
         Ok(world) => world,
         Err(how) => return (stop(how, lines.as_slice(), &mut page, out), None),
     };
-    'events: for event in schedule.events.as_slice() {
+    'events: for event in events {
         let SinkAnswer::Done = page.put(out, lines.as_slice()) else {
             return (RunEnd::WriteFailed, None);
         };
@@ -117,7 +117,8 @@ fn end_of(went: WorldStep) -> RunEnd
         WorldStep::Slip => RunEnd::Slip,
         WorldStep::Turns => RunEnd::Turns,
         WorldStep::NumbersSpent => RunEnd::NumbersSpent,
-        WorldStep::PowerLost => RunEnd::NoMemory,
+        WorldStep::JournalFull => RunEnd::JournalFull,
+        WorldStep::PowerLost(_) => RunEnd::NoMemory,
         WorldStep::NoMemory => RunEnd::NoMemory,
     }
 }

@@ -3,7 +3,6 @@
 ghost use Rattle.std.specs.Prelude.{◌≡◌, ◌<◌, ◌≤◌, ◌+◌, ◌-◌, ◌^◌, ◌++◌, ◌∷◌, ◌&&◌, ℕ, false, IfOk, OnErr, OnOk};
 ghost use Rattle.disk_base.specs.declared.cut.CutChoice.{CutChoice};
 ghost use Rattle.gl_base.specs.declared.side.Side.{Side};
-ghost use Rattle.gl_base.specs.declared.side.Side.TheVariants as side;
 ghost use Rattle.line_end.specs.Step.{is_due};
 ghost use Rattle.line_way.specs.Kept.{IsSlipOf, direction_to, gathered_with_next, makes_slip_in};
 ghost use Rattle.message_end.specs.Ends.{MayTake, Opens, calls_left, input_of};
@@ -14,7 +13,7 @@ ghost use Rattle.trace_log.specs.Log.Happening.{Power};
 ghost use Rattle.trace_log.specs.Text.{entry_text, note_line, note_of, text_of};
 ghost use Rattle.end_pair.specs.declared.answers.WorldStep.TheVariants as answer;
 ghost use Rattle.end_pair.specs.Kept.{IfLeft, IfWent, IsPowered, PutPart, Puts, gone};
-ghost use Rattle.end_pair.specs.Steps.{entries_of, gives, slip_of, stepped, stopped_for};
+ghost use Rattle.end_pair.specs.Steps.{entries_of, gives, slip_of, spent_for, stepped, stopped_for};
 
 use crate::answers::WorldStep;
 use crate::putting::{put_notes, put_step};
@@ -59,6 +58,7 @@ pub(crate) fn start_end<E: End>(
         Err(Stop::NoMemory) => return Err(NoMemory),
         Err(Stop::DiskFailed) => unreachable!("no start is stopped by its disk"),
         Err(Stop::NumbersSpent) => unreachable!("there are numbers to start with"),
+        Err(Stop::Full) => unreachable!("no start fills a store"),
     };
     let Ok(()) = put_notes(0, side, out.notes.as_slice(), lines) else {
         return Err(NoMemory);
@@ -90,11 +90,11 @@ pub(crate) fn step_end<E: End>(
         E.machine side now (E.planned end.old) is_cut choice (input_of input.entry) (E.means end.old) ways.old in
         IfLeft result
         (E.means end.new ≡ step.end)
-        ((later : ℕ) → E.anew end.new choice later ≡ E.machine.restart step.end later) }
+        (λ lost. (later : ℕ) → E.anew end.new choice later ≡ E.machine.restart step.end later) }
     ensures ways { (choice : CutChoice) →
         let step = stepped
         E.machine side now (E.planned end.old) is_cut choice (input_of input.entry) (E.means end.old) ways.old in
-        IfLeft result (ways.new ≡ step.ways) (ways.new ≡ step.ways) }
+        IfLeft result (ways.new ≡ step.ways) (λ lost. ways.new ≡ step.ways) }
     ensures planned { (choice : CutChoice) →
         let step = stepped
         E.machine side now (E.planned end.old) is_cut choice (input_of input.entry) (E.means end.old) ways.old in
@@ -116,7 +116,10 @@ pub(crate) fn step_end<E: End>(
     };
     match end.step(alloc, input, now, &mut out) {
         Ok(()) => {}
-        Err(Stop::NumbersSpent) => return put_spent(now, side, out.notes.as_slice(), lines),
+        Err(Stop::NumbersSpent) => {
+            return put_spent(now, side, false, out.notes.as_slice(), lines);
+        }
+        Err(Stop::Full) => return put_spent(now, side, true, out.notes.as_slice(), lines),
         Err(Stop::DiskFailed) => {
             return put_stopped(now, side, is_cut, out.notes.as_slice(), lines);
         }
@@ -131,10 +134,11 @@ pub(crate) fn step_end<E: End>(
     }
 }
 
-/// The equipment has lost its power: that is noted, and it starts anew with its disk as the choice leaves it.
+/// An end has lost its power: that is noted, and it starts anew with its disk as the choice leaves it.
 pub(crate) fn restart_end<E: End>(
     alloc: Global,
     now: u64,
+    side: Side,
     choice: CutChoice,
     end: &mut E,
     lines: &mut Row<u8>,
@@ -142,7 +146,7 @@ pub(crate) fn restart_end<E: End>(
     requires now { now < 2 ^ 62 }
     requires sound { E.sound end.old }
     ensures lines { let went = E.anew end.old choice now in
-        Puts (gone went) (text_of (entries_of side.Equipment now (Power ∷ (step_in went).notes)))
+        Puts (gone went) (text_of (entries_of side now (Power ∷ (step_in went).notes)))
         lines.old lines.new result }
     ensures end { IfWent result (E.means end.new ≡ (step_in (E.anew end.old choice now)).next) }
     ensures planned { IfWent result (E.planned end.new ≡ calls_left E.machine (E.means end.new)) }
@@ -151,7 +155,7 @@ pub(crate) fn restart_end<E: End>(
     ensures powered { IsPowered result }
 {
     notes_are_lines();
-    let Ok(()) = put_power(alloc, now, lines) else {
+    let Ok(()) = put_power(alloc, now, side, lines) else {
         return WorldStep::NoMemory;
     };
     let mut out = StepOut {
@@ -160,28 +164,26 @@ pub(crate) fn restart_end<E: End>(
     };
     match end.restart(alloc, choice, now, &mut out) {
         Ok(()) => {}
-        Err(Stop::NumbersSpent) => return put_spent(
-            now,
-            Side::Equipment,
-            out.notes.as_slice(),
-            lines,
-        ),
+        Err(Stop::NumbersSpent) => {
+            return put_spent(now, side, false, out.notes.as_slice(), lines);
+        }
+        Err(Stop::Full) => unreachable!("no start fills a store"),
         Err(Stop::DiskFailed) => unreachable!("no start is stopped by its disk"),
         Err(Stop::NoMemory) => return WorldStep::NoMemory,
     }
-    let Ok(()) = put_notes(now, Side::Equipment, out.notes.as_slice(), lines) else {
+    let Ok(()) = put_notes(now, side, out.notes.as_slice(), lines) else {
         return WorldStep::NoMemory;
     };
     WorldStep::Went
 }
 
 // Puts the line of a loss of power.
-fn put_power(alloc: Global, now: u64, lines: &mut Row<u8>) -> Result<(), NoMemory>
-    ensures ok { OnOk result (lines.new ≡ lines.old ++ note_line now side.Equipment (note_of Power)) }
+fn put_power(alloc: Global, now: u64, side: Side, lines: &mut Row<u8>) -> Result<(), NoMemory>
+    ensures ok { OnOk result (lines.new ≡ lines.old ++ note_line now side (note_of Power)) }
     ensures err { OnErr result (lines.new ≡ lines.old) }
 {
     let note = power_note(alloc)?;
-    put_note(now, Side::Equipment, &note, lines)
+    put_note(now, side, &note, lines)
 }
 
 // The slip that a step makes, where it gives the end the next character.
@@ -221,11 +223,12 @@ fn put_slipped(now: u64, side: Side, slip: &Slip, lines: &mut Row<u8>) -> WorldS
     }
 }
 
-// Puts the lines of a step in which the numbers were spent.
-fn put_spent(now: u64, side: Side, notes: &[Note], lines: &mut Row<u8>) -> WorldStep
-    ensures puts { Puts answer.NumbersSpent (flat_map (note_line now side) notes.now) lines.old lines.new result }
+// Puts the lines of a step that has ended early: it was to fill the end's own store, or its numbers were spent.
+fn put_spent(now: u64, side: Side, fills: bool, notes: &[Note], lines: &mut Row<u8>) -> WorldStep
+    ensures puts { Puts (spent_for fills) (flat_map (note_line now side) notes.now) lines.old lines.new result }
 {
     match put_notes(now, side, notes, lines) {
+        Ok(()) if fills => WorldStep::JournalFull,
         Ok(()) => WorldStep::NumbersSpent,
         Err(NoMemory) => WorldStep::NoMemory,
     }
@@ -233,11 +236,11 @@ fn put_spent(now: u64, side: Side, notes: &[Note], lines: &mut Row<u8>) -> World
 
 // Puts the lines of a step whose disk has stopped: its power is lost, or there is no room for a call.
 fn put_stopped(now: u64, side: Side, is_cut: bool, notes: &[Note], lines: &mut Row<u8>) -> WorldStep
-    ensures puts { Puts (stopped_for is_cut) (flat_map (note_line now side) notes.now) lines.old lines.new result }
+    ensures puts { Puts (stopped_for side is_cut) (flat_map (note_line now side) notes.now) lines.old lines.new result }
     ensures powered { is_cut ≡ false → IsPowered result }
 {
     match put_notes(now, side, notes, lines) {
-        Ok(()) if is_cut => WorldStep::PowerLost,
+        Ok(()) if is_cut => WorldStep::PowerLost(side),
         Ok(()) => WorldStep::Turns,
         Err(NoMemory) => WorldStep::NoMemory,
     }

@@ -1,15 +1,15 @@
 //! The world: two ends, the line between them, the clock, and what is planned of the power. One call carries out one
 //! event.
 
-ghost use Rattle.std.specs.Prelude.{◌≡◌, ◌≢◌, ◌<◌, ◌≤◌, ◌+◌, ◌*◌, ◌^◌, ◌++◌, ◌&&◌, not, None, Some, IfErr, IfOk, OnErr, OnOk};
+ghost use Rattle.std.specs.Prelude.{◌≡◌, ◌≢◌, ◌<◌, ◌≤◌, ◌+◌, ◌*◌, ◌^◌, ◌++◌, ◌&&◌, not, None, Some, IfErr, IfOk, OnErr, OnOk, if◌then◌else◌};
 ghost use Rattle.gl_base.specs.declared.side.Side.TheVariants as sides;
 ghost use Rattle.message_end.specs.Core.{step_in};
 ghost use Rattle.message_end.specs.Ends.{MayTake, Opens, input_of};
 ghost use Rattle.trace_log.specs.Text.{text_of};
-ghost use Rattle.end_pair.specs.Kept.{Comes, IfWent, IsDark, IsPowered, MayHappen, PutPart, Puts, begun_by, seen};
+ghost use Rattle.end_pair.specs.Kept.{IfWent, IsDark, IsPowered, Makes, MayHappen, MayLose, PutPart, Puts, begun_by, kept, seen};
 ghost use Rattle.line_way.specs.Kept.{direction_to, with_direction, without_power};
 ghost use Rattle.line_way.specs.Ways.{characters_of, is_under_way};
-ghost use Rattle.end_pair.specs.World.{World as WorldOf, added_to, after_event, again, armed, at_start, begun, both_stepped, changed_at, equipment_stepped, given, given_times, happened, host_stepped, later, lost, lost_from, met, settled, settled_times, way_to, without};
+ghost use Rattle.end_pair.specs.World.{World as WorldOf, added_to, after_event, again, armed, at_start, begun, both_stepped, changed_at, equipment_stepped, given, given_times, happened, host_stepped, is_to_lose, later, lost, lost_from, met, planned, settled, settled_times, way_to, without};
 ghost use Rattle.end_pair.specs.declared.answers.WorldStep.TheVariants as answer;
 
 use crate::answers::WorldStep;
@@ -40,15 +40,16 @@ pub struct World<E: End, H: End> {
     ways: Ways,
     moment: u64,
     steps: u32,
-    // at which call of the equipment's disk the next event ends the power, whether it goes at the one at which the disk
-    // is to stop, and what that leaves of the disk
-    cut: Option<u32>,
-    is_cut: bool,
+    // which end's power goes in the next event, and at which call of its disk; whose power goes at the one at which its
+    // disk is to stop; and what that leaves of the disk
+    cut: Option<(Side, u32)>,
+    is_cut: Option<Side>,
     choice: CutChoice,
 }
 
 impl<E: End, H: End> Model for World<E, H> {
     ghost use Rattle.std.specs.Prelude.{◌≡◌, ◌≤◌, ◌*◌, IfSome};
+    ghost use Rattle.end_pair.specs.Kept.{MayLose};
     ghost use Rattle.end_pair.specs.World.{World};
 
     ghost Value = { World E H };
@@ -68,7 +69,7 @@ impl<E: End, H: End> Model for World<E, H> {
 
     ghost invariant = { λ w. (E.sound w.equipment)
         × (H.sound w.host)
-        × IfSome w.cut (λ call. E.loses)
+        × IfSome w.cut (λ planned. MayLose E.loses H.loses planned.0)
         × (w.steps ≤ 4000000)
         × (w.moment ≤ 1000000 * w.steps)
         × (w.ways.written ≤ w.steps) };
@@ -163,7 +164,7 @@ impl<E: End<Command = ToolCommand>, H: End<Command = HostCommand>> World<E, H> {
             moment: 0,
             steps: 0,
             cut: None,
-            is_cut: false,
+            is_cut: None,
             choice: CutChoice::Old,
         })
     }
@@ -191,11 +192,11 @@ impl<E: End<Command = ToolCommand>, H: End<Command = HostCommand>> World<E, H> {
 
     /// Carries out an event, and puts its lines at the end. Every earlier call must have answered `Went`.
     ///
-    /// A cut ends the equipment's power in the next event that isn't a cut itself: at the call of its disk that the cut
-    /// names, or at the event's end where fewer are made. It starts anew at once, and the rest of that event isn't
-    /// carried out.
+    /// A cut ends the equipment's power, and one of the host's the host's, in the next event that isn't a cut itself: at
+    /// the call of that end's disk that the cut names, or at the event's end where fewer are made. The end starts anew
+    /// at once, and the rest of that event isn't carried out. A later cut takes the place of one before it.
     pub fn step(&mut self, alloc: Global, event: &Event, lines: &mut Row<u8>) -> WorldStep
-        requires { MayHappen E.takes H.takes E.loses event.now }
+        requires { MayHappen E.takes H.takes E.loses H.loses event.now }
         ensures lines { let piece = after_event E.machine H.machine event.now (seen E.means H.means self.old) in
             Puts piece.went (text_of piece.entries) lines.old lines.new result }
         ensures world { IfWent result (seen E.means H.means self.new
@@ -204,139 +205,178 @@ impl<E: End<Command = ToolCommand>, H: End<Command = HostCommand>> World<E, H> {
     {
         match event {
             Event::Cut(call, choice) => {
-                self.plan(*call, *choice);
+                self.plan(Side::Equipment, *call, *choice);
+                WorldStep::Went
+            }
+            Event::HostCut(call, choice) => {
+                self.plan(Side::Host, *call, *choice);
                 WorldStep::Went
             }
             _ => self.meet(alloc, event, lines),
         }
     }
 
-    // The next event ends the power.
-    fn plan(&mut self, call: u32, choice: CutChoice)
-        requires { E.loses }
-        ensures { seen E.means H.means self.new
-            ≡ record (seen E.means H.means self.old) { cut = Some call; choice = choice } }
+    // The next event ends the power of this end, and of no other.
+    fn plan(&mut self, side: Side, call: u32, choice: CutChoice)
+        requires { MayLose E.loses H.loses side }
+        ensures { seen E.means H.means self.new ≡ planned side call choice (seen E.means H.means self.old) }
     {
-        self.cut = Some(call);
+        self.cut = Some((side, call));
         self.choice = choice;
     }
 
     // Carries out an event, at the end of which there is power again.
     fn meet(&mut self, alloc: Global, event: &Event, lines: &mut Row<u8>) -> WorldStep
-        requires { MayHappen E.takes H.takes E.loses event.now }
-        ensures { Comes
-            (seen E.means H.means)
-            (IsDark E.anew E.machine.restart H.means)
+        requires { MayHappen E.takes H.takes E.loses H.loses event.now }
+        ensures { Makes
+            (kept E.means E.anew E.machine)
+            (kept H.means H.anew H.machine)
             (met E.machine H.machine event.now self.old.cut (seen E.means H.means self.old))
             self.new
             lines.old lines.new result }
     {
         match self.cut {
-            Some(call) => self.cut_short(alloc, call, event, lines),
+            Some((side, call)) => self.cut_short(alloc, side, call, event, lines),
             None => self.carry_whole(alloc, event, lines),
         }
     }
 
-    // The power goes in this event.
+    // An end's power goes in this event.
     fn cut_short(
         &mut self,
         alloc: Global,
+        side: Side,
         call: u32,
         event: &Event,
         lines: &mut Row<u8>,
     ) -> WorldStep
-        requires loses { E.loses }
-        requires event { MayHappen E.takes H.takes E.loses event.now }
-        ensures { Comes
-            (seen E.means H.means)
-            (IsDark E.anew E.machine.restart H.means)
-            (met E.machine H.machine event.now (Some call) (seen E.means H.means self.old))
+        requires loses { MayLose E.loses H.loses side }
+        requires event { MayHappen E.takes H.takes E.loses H.loses event.now }
+        ensures { Makes
+            (kept E.means E.anew E.machine)
+            (kept H.means H.anew H.machine)
+            (met E.machine H.machine event.now (Some (side, call)) (seen E.means H.means self.old))
             self.new
             lines.old lines.new result }
     {
-        self.arm(call);
+        self.arm(side, call);
         match self.carry(alloc, event, lines) {
             WorldStep::Went => {
-                self.disarm();
-                self.start_over(alloc, lines)
+                self.disarm(side);
+                self.start_over(alloc, side, lines)
             }
-            WorldStep::PowerLost => self.start_over(alloc, lines),
+            WorldStep::PowerLost(lost) => self.start_over(alloc, lost, lines),
             stop => stop,
         }
     }
 
     // Its disk hasn't come to that call, and comes to none any more: it would start anew from what it is.
-    fn disarm(&mut self)
-        ensures { IsDark E.anew E.machine.restart H.means self.new (seen E.means H.means self.old) }
+    fn disarm(&mut self, side: Side)
+        ensures { IsDark
+            (kept E.means E.anew E.machine)
+            (kept H.means H.anew H.machine)
+            side
+            self.new
+            (seen E.means H.means self.old) }
     {
-        self.equipment.arm(0);
+        match side {
+            Side::Equipment => {
+                self.equipment.arm(0);
+            }
+            Side::Host => {
+                self.host.arm(0);
+            }
+        }
     }
 
     // The power goes in it only where a call of the disk is planned still.
     fn carry_whole(&mut self, alloc: Global, event: &Event, lines: &mut Row<u8>) -> WorldStep
-        requires { MayHappen E.takes H.takes E.loses event.now }
-        ensures { Comes
-            (seen E.means H.means)
-            (IsDark E.anew E.machine.restart H.means)
+        requires { MayHappen E.takes H.takes E.loses H.loses event.now }
+        ensures { Makes
+            (kept E.means E.anew E.machine)
+            (kept H.means H.anew H.machine)
             (met E.machine H.machine event.now None (seen E.means H.means self.old))
             self.new
             lines.old lines.new result }
     {
         match self.carry(alloc, event, lines) {
-            WorldStep::PowerLost => self.start_over(alloc, lines),
+            WorldStep::PowerLost(lost) => self.start_over(alloc, lost, lines),
             went => went,
         }
     }
 
-    // It is to go at this call of the equipment's disk.
-    fn arm(&mut self, call: u32)
-        requires { E.loses }
-        ensures { seen E.means H.means self.new ≡ (armed call (seen E.means H.means self.old)).world }
+    // It is to go at this call of the end's disk.
+    fn arm(&mut self, side: Side, call: u32)
+        requires { MayLose E.loses H.loses side }
+        ensures { seen E.means H.means self.new ≡ (armed side call (seen E.means H.means self.old)).world }
     {
         self.cut = None;
-        self.is_cut = self.equipment.arm(call);
+        match side {
+            Side::Equipment => self.is_cut = side_if(side, self.equipment.arm(call)),
+            Side::Host => self.is_cut = side_if(side, self.host.arm(call)),
+        }
     }
 
-    // The equipment has no power: it starts anew, and makes a step.
-    fn start_over(&mut self, alloc: Global, lines: &mut Row<u8>) -> WorldStep
+    // The end has no power: it starts anew, and makes a step.
+    fn start_over(&mut self, alloc: Global, side: Side, lines: &mut Row<u8>) -> WorldStep
         ensures { (left : WorldOf E.State H.State)
-            → IsDark E.anew E.machine.restart H.means self.old left
-            → Comes
-            (seen E.means H.means)
-            (IsDark E.anew E.machine.restart H.means)
-            (without E.machine H.machine left)
+            → IsDark (kept E.means E.anew E.machine) (kept H.means H.anew H.machine) side self.old left
+            → Makes
+            (kept E.means E.anew E.machine)
+            (kept H.means H.anew H.machine)
+            (without E.machine H.machine side left)
             self.new
             lines.old lines.new result }
     {
-        match self.start_anew(alloc, lines) {
+        match self.start_anew(alloc, side, lines) {
             WorldStep::Went => {}
             stop => return stop,
         }
-        self.step_equipment(alloc, 0, NodeInput::Time, lines)
+        match side {
+            Side::Equipment => self.step_equipment(alloc, 0, NodeInput::Time, lines),
+            Side::Host => self.step_host(alloc, NodeInput::Time, lines),
+        }
     }
 
-    // The line is emptied, and the equipment starts anew with what is left of its disk.
-    fn start_anew(&mut self, alloc: Global, lines: &mut Row<u8>) -> WorldStep
+    // The line is emptied, and the end starts anew with what is left of its disk.
+    fn start_anew(&mut self, alloc: Global, side: Side, lines: &mut Row<u8>) -> WorldStep
         ensures { (left : WorldOf E.State H.State)
-            → IsDark E.anew E.machine.restart H.means self.old left
-            → Comes
-            (seen E.means H.means)
-            (IsDark E.anew E.machine.restart H.means)
-            (again E.machine H.machine left)
+            → IsDark (kept E.means E.anew E.machine) (kept H.means H.anew H.machine) side self.old left
+            → Makes
+            (kept E.means E.anew E.machine)
+            (kept H.means H.anew H.machine)
+            (again E.machine H.machine side left)
             self.new
             lines.old lines.new result }
     {
-        empty_line(&mut self.ways);
-        self.is_cut = false;
-        restart_end(alloc, self.moment, self.choice, &mut self.equipment, lines)
+        empty_line(side, &mut self.ways);
+        self.is_cut = None;
+        match side {
+            Side::Equipment => restart_end(
+                alloc,
+                self.moment,
+                Side::Equipment,
+                self.choice,
+                &mut self.equipment,
+                lines,
+            ),
+            Side::Host => restart_end(
+                alloc,
+                self.moment,
+                Side::Host,
+                self.choice,
+                &mut self.host,
+                lines,
+            ),
+        }
     }
 
     // What a line of a schedule has happen, as long as there is power.
     fn carry(&mut self, alloc: Global, event: &Event, lines: &mut Row<u8>) -> WorldStep
-        requires { MayHappen E.takes H.takes E.loses event.now }
-        ensures { Comes
-            (seen E.means H.means)
-            (IsDark E.anew E.machine.restart H.means)
+        requires { MayHappen E.takes H.takes E.loses H.loses event.now }
+        ensures { Makes
+            (kept E.means E.anew E.machine)
+            (kept H.means H.anew H.machine)
             (happened E.machine H.machine event.now (seen E.means H.means self.old))
             self.new
             lines.old lines.new result }
@@ -362,7 +402,11 @@ impl<E: End<Command = ToolCommand>, H: End<Command = HostCommand>> World<E, H> {
                 Err(NoMemory) => WorldStep::NoMemory,
             },
             Event::Cut(call, choice) => {
-                self.plan(*call, *choice);
+                self.plan(Side::Equipment, *call, *choice);
+                WorldStep::Went
+            }
+            Event::HostCut(call, choice) => {
+                self.plan(Side::Host, *call, *choice);
                 WorldStep::Went
             }
         }
@@ -370,9 +414,9 @@ impl<E: End<Command = ToolCommand>, H: End<Command = HostCommand>> World<E, H> {
 
     // Hands characters to one end: n of them, or as many as are on their way to it.
     fn give(&mut self, alloc: Global, side: Side, n: u32, lines: &mut Row<u8>) -> WorldStep
-        ensures { Comes
-            (seen E.means H.means)
-            (IsDark E.anew E.machine.restart H.means)
+        ensures { Makes
+            (kept E.means E.anew E.machine)
+            (kept H.means H.anew H.machine)
             (given_times E.machine H.machine n side (seen E.means H.means self.old))
             self.new
             lines.old lines.new result }
@@ -393,9 +437,9 @@ impl<E: End<Command = ToolCommand>, H: End<Command = HostCommand>> World<E, H> {
 
     // Hands characters to both ends: n in all, or as many as are on their way.
     fn settle(&mut self, alloc: Global, n: u32, lines: &mut Row<u8>) -> WorldStep
-        ensures { Comes
-            (seen E.means H.means)
-            (IsDark E.anew E.machine.restart H.means)
+        ensures { Makes
+            (kept E.means E.anew E.machine)
+            (kept H.means H.anew H.machine)
             (settled_times E.machine H.machine n (seen E.means H.means self.old))
             self.new
             lines.old lines.new result }
@@ -416,9 +460,9 @@ impl<E: End<Command = ToolCommand>, H: End<Command = HostCommand>> World<E, H> {
 
     // Hands one character to the equipment where one is on its way there, otherwise one to the host.
     fn settle_one(&mut self, alloc: Global, lines: &mut Row<u8>) -> WorldStep
-        ensures { Comes
-            (seen E.means H.means)
-            (IsDark E.anew E.machine.restart H.means)
+        ensures { Makes
+            (kept E.means E.anew E.machine)
+            (kept H.means H.anew H.machine)
             (settled E.machine H.machine (seen E.means H.means self.old))
             self.new
             lines.old lines.new result }
@@ -447,9 +491,9 @@ impl<E: End<Command = ToolCommand>, H: End<Command = HostCommand>> World<E, H> {
 
     // Hands the next character to an end, where one is on its way to it.
     fn hand(&mut self, alloc: Global, side: Side, lines: &mut Row<u8>) -> WorldStep
-        ensures { Comes
-            (seen E.means H.means)
-            (IsDark E.anew E.machine.restart H.means)
+        ensures { Makes
+            (kept E.means E.anew E.machine)
+            (kept H.means H.anew H.machine)
             (given E.machine H.machine side (seen E.means H.means self.old))
             self.new
             lines.old lines.new result }
@@ -466,9 +510,9 @@ impl<E: End<Command = ToolCommand>, H: End<Command = HostCommand>> World<E, H> {
     // The clock goes on, and each end looks at it.
     fn step_both(&mut self, alloc: Global, milliseconds: u32, lines: &mut Row<u8>) -> WorldStep
         requires { milliseconds ≤ 1000000 }
-        ensures { Comes
-            (seen E.means H.means)
-            (IsDark E.anew E.machine.restart H.means)
+        ensures { Makes
+            (kept E.means E.anew E.machine)
+            (kept H.means H.anew H.machine)
             (both_stepped E.machine H.machine (later milliseconds (seen E.means H.means self.old)))
             self.new
             lines.old lines.new result }
@@ -489,9 +533,9 @@ impl<E: End<Command = ToolCommand>, H: End<Command = HostCommand>> World<E, H> {
     ) -> WorldStep
         requires milliseconds { milliseconds ≤ 1000000 }
         requires input { MayTake E.takes (input_of input) }
-        ensures { Comes
-            (seen E.means H.means)
-            (IsDark E.anew E.machine.restart H.means)
+        ensures { Makes
+            (kept E.means E.anew E.machine)
+            (kept H.means H.anew H.machine)
             (equipment_stepped E.machine H.machine (input_of input.entry)
             (later milliseconds (seen E.means H.means self.old)))
             self.new
@@ -506,7 +550,7 @@ impl<E: End<Command = ToolCommand>, H: End<Command = HostCommand>> World<E, H> {
             alloc,
             self.moment,
             Side::Equipment,
-            self.is_cut,
+            is_to_lose(Side::Equipment, self.is_cut),
             input,
             &mut self.equipment,
             &mut self.ways,
@@ -522,9 +566,9 @@ impl<E: End<Command = ToolCommand>, H: End<Command = HostCommand>> World<E, H> {
         lines: &mut Row<u8>,
     ) -> WorldStep
         requires { MayTake H.takes (input_of input) }
-        ensures { Comes
-            (seen E.means H.means)
-            (IsDark E.anew E.machine.restart H.means)
+        ensures { Makes
+            (kept E.means E.anew E.machine)
+            (kept H.means H.anew H.machine)
             (host_stepped E.machine H.machine (input_of input.entry) (seen E.means H.means self.old))
             self.new
             lines.old lines.new result }
@@ -537,7 +581,7 @@ impl<E: End<Command = ToolCommand>, H: End<Command = HostCommand>> World<E, H> {
             alloc,
             self.moment,
             Side::Host,
-            false,
+            is_to_lose(Side::Host, self.is_cut),
             input,
             &mut self.host,
             &mut self.ways,
@@ -577,10 +621,25 @@ fn lose_from(ways: &mut Ways, side: Side, n: u32)
     }
 }
 
-// The equipment has no power: nothing is on its way, and it has gathered nothing.
-fn empty_line(ways: &mut Ways)
-    ensures ways { ways.new ≡ without_power sides.Equipment ways.old }
+// An end has no power: nothing is on its way, and it has gathered nothing.
+fn empty_line(side: Side, ways: &mut Ways)
+    ensures ways { ways.new ≡ without_power side ways.old }
     ensures count { ways.new.written ≡ ways.old.written }
 {
-    ways.empty(Side::Equipment);
+    ways.empty(side);
+}
+
+fn is_to_lose(side: Side, is_cut: Option<Side>) -> bool
+    ensures { result ≡ is_to_lose side is_cut }
+{
+    match is_cut {
+        Some(other) => side == other,
+        None => false,
+    }
+}
+
+fn side_if(side: Side, is_it: bool) -> Option<Side>
+    ensures { result ≡ (if is_it then Some side else None) }
+{
+    if is_it { Some(side) } else { None }
 }

@@ -1,5 +1,5 @@
 -- Counts of faults, one call behind the other.
-use Rattle.std.proofs.Common.{◌≡◌, ℕ, List, [], Option, Some, None, Result, Ok, Err, inl, inr, refl, subst, arith}
+use Rattle.std.proofs.Common.{◌≡◌, ℕ, Bool, List, [], Option, Some, None, Result, Ok, Err, inl, inr, refl, subst, arith}
 use Rattle.gl_base.specs.Sending.{WroteText}
 use Rattle.gl_base.specs.Told.{SinkTold}
 use Rattle.message_end.specs.declared.end.Stop.{Stop}
@@ -9,7 +9,7 @@ use Rattle.message_end.specs.Ends.{Leaves, Uses, none_asked}
 use Rattle.message_flow.specs.declared.step.StepOut.{StepOut}
 use Rattle.trace_log.specs.Log.{Happening}
 use Rattle.end_run.specs.declared.ending.Ending.{Ending}
-use Rattle.end_run.specs.declared.ending.Ending.TheVariants.{Closed, DiskFailed, LinkFailed, NoMemory, NumbersSpent, Stopped, Turns, WriteFailed}
+use Rattle.end_run.specs.declared.ending.Ending.TheVariants.{Closed, DiskFailed, Full, LinkFailed, NoMemory, NumbersSpent, Stopped, Turns, WriteFailed}
 use Rattle.end_run.specs.Calls.{EndsWith, PutsAsCan, PutsStart}
 use Rattle.end_run.specs.Counts.{Counted, Counts, CountsNone, Device, DeviceFails, StepCounts, counted_by, no_device}
 
@@ -23,20 +23,22 @@ counts_behind {F} a b c result none more =
 
 -- a step without a disk
 pub counts_no_disk :
-    {S : Type 0} (went : Went S Happening) (next : S) (out : StepOut) (result : Result (Unit {0}) Stop)
-    → Leaves [] went next out result → StepCounts no_device no_device result
-counts_no_disk went next out (Ok done) leaves = refl
-counts_no_disk went next out (Err stop.NumbersSpent) leaves = refl
-counts_no_disk went next out (Err stop.NoMemory) leaves = refl
-counts_no_disk went next out (Err stop.DiskFailed) halt = absurd halt.may
+    {S : Type 0} (fills : Bool) (went : Went S Happening) (next : S) (out : StepOut) (result : Result (Unit {0}) Stop)
+    → Leaves [] fills went next out result → StepCounts no_device no_device result
+counts_no_disk fills went next out (Ok done) leaves = refl
+counts_no_disk fills went next out (Err stop.NumbersSpent) leaves = refl
+counts_no_disk fills went next out (Err stop.Full) leaves = refl
+counts_no_disk fills went next out (Err stop.NoMemory) leaves = refl
+counts_no_disk fills went next out (Err stop.DiskFailed) halt = absurd halt.may
 
 pub uses_no_disk :
-    {S : Type 0} (went : Went S Happening) (next : S) (out : StepOut) (result : Result (Unit {0}) Stop)
-    → Leaves [] went next out result → Uses none_asked none_asked none_asked result
-uses_no_disk went next out (Ok done) leaves = record { calls = omega arith; bytes = omega arith }
-uses_no_disk went next out (Err stop.NumbersSpent) leaves = tt
-uses_no_disk went next out (Err stop.NoMemory) leaves = tt
-uses_no_disk went next out (Err stop.DiskFailed) halt = absurd halt.may
+    {S : Type 0} (fills : Bool) (went : Went S Happening) (next : S) (out : StepOut) (result : Result (Unit {0}) Stop)
+    → Leaves [] fills went next out result → Uses none_asked none_asked none_asked result
+uses_no_disk fills went next out (Ok done) leaves = record { calls = omega arith; bytes = omega arith }
+uses_no_disk fills went next out (Err stop.NumbersSpent) leaves = tt
+uses_no_disk fills went next out (Err stop.Full) leaves = tt
+uses_no_disk fills went next out (Err stop.NoMemory) leaves = tt
+uses_no_disk fills went next out (Err stop.DiskFailed) halt = absurd halt.may
 
 -- nothing but the output was called
 abbrev pub before_call : {F : Type 0} → ℕ → Device F → SinkTold → Counted F
@@ -56,6 +58,7 @@ module _ {F : Type 0} (link : ℕ) (disk : Device F) (out : SinkTold) where
   ends_count text how Closed ends = wrote_counts text ends.1
   ends_count text how Turns ends = wrote_counts text ends.1
   ends_count text how NumbersSpent ends = wrote_counts text ends.1
+  ends_count text how Full ends = wrote_counts text ends.1
   ends_count text how DiskFailed ends = absurd ends
   ends_count text how LinkFailed ends = absurd ends
   ends_count text how WriteFailed short = (refl, short.fault.rose, refl)
@@ -72,6 +75,7 @@ module _ {F : Type 0} (link : ℕ) (disk : Device F) (out : SinkTold) where
   puts_count failed text Closed is fails puts = absurd (cc)
   puts_count failed text Turns is fails puts = absurd (cc)
   puts_count failed text NumbersSpent is fails puts = absurd (cc)
+  puts_count failed text Full is fails puts = absurd (cc)
   puts_count failed text LinkFailed is fails puts = absurd (cc)
   puts_count failed text WriteFailed is fails puts = absurd (cc)
   puts_count failed text NoMemory is fails puts = absurd (cc)
@@ -85,5 +89,6 @@ module _ {F : Type 0} (link : ℕ) (disk : Device F) (out : SinkTold) where
   start_counts text (Some Closed) puts = absurd puts
   start_counts text (Some Turns) puts = absurd puts
   start_counts text (Some NumbersSpent) puts = absurd puts
+  start_counts text (Some Full) puts = absurd puts
   start_counts text (Some DiskFailed) puts = absurd puts
   start_counts text (Some LinkFailed) puts = absurd puts

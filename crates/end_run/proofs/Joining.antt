@@ -78,7 +78,7 @@ end_by-append : {S C : Type 0} (before : Option S) (first second : List (Act S C
 end_by-append before [] second = refl
 end_by-append before (act ∷ first) second = end_by-append (end_with before act) first second
 
-left_both : {S C : Type 0} (before mid now : S) (first second : List (Act S C))
+pub left_both : {S C : Type 0} (before mid now : S) (first second : List (Act S C))
     → IsLeft (end_by (Some before) first) mid
     → IsLeft (end_by (Some mid) second) now → IsLeft (end_by (Some before) (first ++ second)) now
 left_both {S} {C} before mid now first second one two =
@@ -261,7 +261,7 @@ module _ {S C : Type 0} {a b : Scene S C} (c : Scene S C) (first second : List (
       stop = two.stop ∙ one.stop;
     }
 
-    pub spent_behind : (more : List (Act S C)) → IsSpent b c more → IsSpent a c (first ++ more)
+    abbrev pub spent_behind : (more : List (Act S C)) → IsSpent b c more → IsSpent a c (first ++ more)
     spent_behind more two = record {
       first = first ++ two.first;
       at = two.at;
@@ -271,6 +271,7 @@ module _ {S C : Type 0} {a b : Scene S C} (c : Scene S C) (first second : List (
       whole = ap (λ (acts : List (Act S C)). first ++ acts) two.whole ∙ sym (append_assoc first two.first _);
       before = left_both a.end b.end two.at.state first two.first one.end two.before;
       out = two.out;
+      fills = two.fills;
       stop = two.stop;
     }
 

@@ -1,5 +1,5 @@
 -- A run of an end that no disk may stop doesn't end so.
-use Rattle.std.proofs.Common.{◌≡◌, zero, suc, ℕ, List, [], ◌∷◌, ◌++◌, map, Option, Some, None, ap, subst}
+use Rattle.std.proofs.Common.{◌≡◌, zero, suc, ℕ, Bool, List, [], ◌∷◌, ◌++◌, map, Option, Some, None, ap, subst}
 use Rattle.gl_base.specs.Events.{moment_after}
 use Rattle.gl_base.specs.declared.link.LinkIn.{LinkIn}
 use Rattle.gl_base.specs.declared.link.LinkIn.TheVariants as link
@@ -65,17 +65,16 @@ module _ {S C : Type 0} (machine : Machine S C) (due : S → Option ℕ) (told :
   sends-on [] = tt
   sends-on (byte ∷ bytes) = tt
 
-  made-on : (at : StepAt S C) (stops : List (List Happening)) (asked : Asked) (went : Went S Happening) → stops ≡ []
-      → GoOn (made at stops asked went).acts
-  made-on at stops asked (Goes step) none =
+  made-on : (at : StepAt S C) (stops : List (List Happening)) (asked : Asked) (fills : Bool)
+      (went : Went S Happening) → stops ≡ [] → GoOn (made at stops asked fills went).acts
+  made-on at stops asked fills (Goes step) none =
       (ap (map (entries_at at.side at.moment)) none, sends-on step.written)
-  made-on at stops asked (Spent step) none = (ap (map (entries_at at.side at.moment)) none, tt)
+  made-on at stops asked fills (Spent step) none = (ap (map (entries_at at.side at.moment)) none, tt)
 
   stepped-on : (now : ℕ) (input : Input C) (s : S) → GoOn (stepped machine side now input s).acts
   stepped-on now input s =
       made-on (step_at side now input s) (machine.stops s input now) (machine.asks s input now)
-      (machine.act s input now)
-      (nowhere s input now)
+      (machine.fills s input now) (machine.act s input now) (nowhere s input now)
 
   more-on : (first : Piece S C) (more : S → Piece S C) → GoOn first.acts → ((s : S) → GoOn (more s).acts)
       → GoOn (and_more first more).acts

@@ -1,5 +1,5 @@
 -- Polls, one after the other, and the answers that come.
-use Rattle.std.proofs.Common.{◌≡◌, ◌≢◌, ℕ, zero, suc, List, [], ◌∷◌, ◌++◌, drop, Option, Some, None, inl, inr, refl, sym, ap, subst, ◌∙◌, append_assoc, append-nil}
+use Rattle.std.proofs.Common.{◌≡◌, ◌≢◌, ℕ, zero, suc, Bool, List, [], ◌∷◌, ◌++◌, drop, Option, Some, None, inl, inr, refl, sym, ap, subst, ◌∙◌, append_assoc, append-nil}
 use Rattle.gl_base.specs.Events.{moment_after}
 use Rattle.gl_base.specs.Link.{IsToldAnswer, LinkContents}
 use Rattle.gl_base.specs.Sending.{WroteText}
@@ -59,15 +59,15 @@ module _ {S C : Type 0} (machine : Machine S C) (side : Side) where
   sends-none [] = refl
   sends-none (byte ∷ bytes) = refl
 
-  made-none : (at : StepAt S C) (stops : List (List Happening)) (asked : Asked) (went : Went S Happening)
-      → taken_of (made at stops asked went).acts ≡ []
-  made-none at stops asked (Goes step) = sends-none step.written
-  made-none at stops asked (Spent step) = refl
+  made-none : (at : StepAt S C) (stops : List (List Happening)) (asked : Asked) (fills : Bool)
+      (went : Went S Happening) → taken_of (made at stops asked fills went).acts ≡ []
+  made-none at stops asked fills (Goes step) = sends-none step.written
+  made-none at stops asked fills (Spent step) = refl
 
   pub stepped-none : (now : ℕ) (input : Input C) (s : S) → taken_of (stepped machine side now input s).acts ≡ []
   stepped-none now input s =
       made-none (step_at side now input s) (machine.stops s input now) (machine.asks s input now)
-      (machine.act s input now)
+      (machine.fills s input now) (machine.act s input now)
 
   pub more-none : (first : Piece S C) (more : S → Piece S C) → taken_of first.acts ≡ []
       → ((s : S) → taken_of (more s).acts ≡ []) → taken_of (and_more first more).acts ≡ []

@@ -12,7 +12,7 @@ use Rattle.message_end.specs.Ends.Input.{Time}
 use Rattle.trace_log.specs.Log.{Entry, Happening}
 use Rattle.trace_log.specs.Text.{text_of}
 use Rattle.end_run.specs.declared.ending.Ending.{Ending}
-use Rattle.end_run.specs.declared.ending.Ending.TheVariants.{Closed, DiskFailed, LinkFailed, NoMemory, NumbersSpent, Stopped, Turns, WriteFailed}
+use Rattle.end_run.specs.declared.ending.Ending.TheVariants.{Closed, DiskFailed, Full, LinkFailed, NoMemory, NumbersSpent, Stopped, Turns, WriteFailed}
 use Rattle.end_run.specs.Acts.{taken_of}
 use Rattle.end_run.specs.Acts.Act.{Connects, Writes}
 use Rattle.end_run.specs.Calls.{StopsAtStart}
@@ -73,6 +73,7 @@ module _ {S C : Type 0} (machine : Machine S C) (due : S → Option ℕ) (told_b
         go Closed falls = absurd falls
         go Turns falls = absurd falls
         go NumbersSpent falls = absurd falls
+        go Full falls = absurd falls
         go DiskFailed falls = absurd falls
         go LinkFailed falls = absurd falls
 

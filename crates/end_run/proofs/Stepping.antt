@@ -1,5 +1,5 @@
 -- One step of an end, as the code makes it.
-use Rattle.std.proofs.Common.{◌≡◌, ◌≢◌, inl, inr, ℕ, ◌<◌, List, [], ◌∷◌, ◌++◌, length, map, take, Option, Some, None, refl, sym, ap, subst, ◌∙◌, append_assoc, append-nil, arith}
+use Rattle.std.proofs.Common.{◌≡◌, ◌≢◌, inl, inr, ℕ, ◌<◌, Bool, true, false, List, [], ◌∷◌, ◌++◌, length, map, take, Option, Some, None, refl, sym, ap, subst, ◌∙◌, append_assoc, append-nil, arith}
 use Rattle.std.specs.List.{flat_map}
 use Rattle.std.proofs.lemmas.Grind.{flat_map-append}
 use Rattle.std.proofs.lemmas.List.{length-map}
@@ -25,13 +25,13 @@ use Rattle.trace_log.specs.Log.{Entry, Happening}
 use Rattle.trace_log.specs.Log.Entry.{Noted}
 use Rattle.trace_log.specs.Text.{note_line, printed_note, text_of}
 use Rattle.end_run.specs.declared.ending.Ending.{Ending}
-use Rattle.end_run.specs.declared.ending.Ending.TheVariants.{Closed, DiskFailed, LinkFailed, NoMemory, NumbersSpent, Stopped, Turns, WriteFailed}
+use Rattle.end_run.specs.declared.ending.Ending.TheVariants.{Closed, DiskFailed, Full, LinkFailed, NoMemory, NumbersSpent, Stopped, Turns, WriteFailed}
 use Rattle.end_run.specs.Acts.{Act, StepAt, list_of}
 use Rattle.end_run.specs.Acts.Act.{Sends, Stands, Writes}
 use Rattle.end_run.specs.Calls.{EndsWith, IsExact, PutsAsCan}
-use Rattle.end_run.specs.Outcome.{Comes, Did, DiskFails, Does, IsSpent, Linked, Lists, Made, MadePart, PutsLast, Runs, WriteFails}
+use Rattle.end_run.specs.Outcome.{Comes, Did, DiskFails, Does, IsSpent, Linked, Lists, Made, MadePart, PutsLast, Runs, WriteFails, stop_for}
 use Rattle.end_run.specs.Scenes.{Scene, StopAt, written}
-use Rattle.end_run.specs.Steps.{entries_at, made, sends, stands}
+use Rattle.end_run.specs.Steps.{entries_at, made, sends, spent_for, stands}
 use Rattle.end_run.proofs.Doing.{does_behind}
 use Rattle.end_run.proofs.Joining.{carried_none, did_none, did_step, goes_none, lists_still, made_both, made_none, made_step, room_none, with_end}
 
@@ -112,16 +112,17 @@ module _ {S C : Type 0} (a : Scene S C) (r' : Option (List ℕ)) (k' : SinkHealt
   }
 
   -- these lines are the last of a run
-  pub ends_does : (how result : Ending) → how ≢ NumbersSpent → EndsWith (written a (with_out a r' k')) text how result
+  pub ends_does : (how result : Ending) → how ≢ NumbersSpent → how ≢ Full → EndsWith (written a (with_out a r' k')) text how result
       → Does a (with_out a r' k') (Some how) (Writes entries ∷ []) (Some result)
-  ends_does how Stopped other ends = (ap Some ends.0, wrote_did ends.1)
-  ends_does how Closed other ends = (ap Some ends.0, wrote_did ends.1)
-  ends_does how Turns other ends = (ap Some ends.0, wrote_did ends.1)
-  ends_does how NumbersSpent other ends = absurd (other ends.0)
-  ends_does how DiskFailed other ends = absurd ends
-  ends_does how LinkFailed other ends = absurd ends
-  ends_does how WriteFailed other short = short_fails [] short
-  ends_does how NoMemory other none = none_wrote [] none
+  ends_does how Stopped other full ends = (ap Some ends.0, wrote_did ends.1)
+  ends_does how Closed other full ends = (ap Some ends.0, wrote_did ends.1)
+  ends_does how Turns other full ends = (ap Some ends.0, wrote_did ends.1)
+  ends_does how NumbersSpent other full ends = absurd (other ends.0)
+  ends_does how Full other full ends = absurd (full ends.0)
+  ends_does how DiskFailed other full ends = absurd ends
+  ends_does how LinkFailed other full ends = absurd ends
+  ends_does how WriteFailed other full short = short_fails [] short
+  ends_does how NoMemory other full none = none_wrote [] none
 
 -- the same of an ending that is exact
 pub ends_exact : (out : SinkTold) (text : List ℕ) (how : Ending) → IsExact how → WroteText out text
@@ -130,6 +131,7 @@ ends_exact out text Stopped exact written = (refl, written)
 ends_exact out text Closed exact written = (refl, written)
 ends_exact out text Turns exact written = (refl, written)
 ends_exact out text NumbersSpent exact written = (refl, written)
+ends_exact out text Full exact written = (refl, written)
 ends_exact out text DiskFailed exact written = absurd exact
 ends_exact out text LinkFailed exact written = absurd exact
 ends_exact out text WriteFailed exact written = absurd exact
@@ -234,8 +236,29 @@ puts_last a end room stop r' k' text (inr (inl short)) =
     { count = short.count; short = short.short; received = short.received; fault = short.fault }))
 puts_last a end room stop r' k' text (inr (inr none)) = inr (inr none)
 
+-- what ends a step early, by how the run ends with it
+by_numbers : (fills : Bool) → spent_for fills ≡ NumbersSpent → fills ≡ false
+by_numbers true is = absurd (cc)
+by_numbers false is = refl
+
+by_store : (fills : Bool) → spent_for fills ≡ Full → fills ≡ true
+by_store true is = refl
+by_store false is = absurd (cc)
+
+never_stops : (fills : Bool) → spent_for fills ≡ Stopped → ⊥
+never_stops true is = absurd (cc)
+never_stops false is = absurd (cc)
+
+never_closes : (fills : Bool) → spent_for fills ≡ Closed → ⊥
+never_closes true is = absurd (cc)
+never_closes false is = absurd (cc)
+
+never_turns : (fills : Bool) → spent_for fills ≡ Turns → ⊥
+never_turns true is = absurd (cc)
+never_turns false is = absurd (cc)
+
 module _ {S C : Type 0} (law : NotesAreLines) (at : StepAt S C) (stops : List (List Happening)) (asked : Asked)
-    (went : Went S Happening) (out : StepOut) where
+    (fills : Bool) (went : Went S Happening) (out : StepOut) where
   -- it goes on, and its lines are these
   gone_text : (next : S) (gone : HasGone went next out)
       → text_of (entries_at at.side at.moment (gone.step.notes ++ wrote gone.step.written))
@@ -255,11 +278,11 @@ module _ {S C : Type 0} (law : NotesAreLines) (at : StepAt S C) (stops : List (L
       ≡ flat_map (note_line at.moment at.side) out.notes ++ flat_map (note_line at.moment at.side) (printed
       (wrote out.line.items))
       → Does (with_end a next room a.stop) c None (Writes entries ∷ sends out.line.items) result)
-      → Runs a c (made at stops asked went) result
+      → Runs a c (made at stops asked fills went) result
   gone_runs a c next room gone used result does =
       let entries : List Entry = entries_at at.side at.moment (gone.step.notes ++ wrote gone.step.written) in
       let first : Act S C = stands at stops asked (Some gone.step.next) in
-      subst (λ (went : Went S Happening). Runs a c (made at stops asked went) result) (sym gone.is)
+      subst (λ (went : Went S Happening). Runs a c (made at stops asked fills went) result) (sym gone.is)
       (subst (λ (w : List ℕ). Does a c None (first ∷ Writes entries ∷ sends w) result)
       gone.written
       (does_behind c (first ∷ [])
@@ -267,9 +290,9 @@ module _ {S C : Type 0} (law : NotesAreLines) (at : StepAt S C) (stops : List (L
       (sym gone.next_is) used) None
       (Writes entries ∷ sends out.line.items) result (does entries (gone_text next gone))))
 
-  pub gone_end : (next : S) → HasGone went next out → next ≡ (made at stops asked went).end
+  pub gone_end : (next : S) → HasGone went next out → next ≡ (made at stops asked fills went).end
   gone_end next gone =
-      sym gone.next_is ∙ ap (λ (went : Went S Happening). (made at stops asked went).end) (sym gone.is)
+      sym gone.next_is ∙ ap (λ (went : Went S Happening). (made at stops asked fills went).end) (sym gone.is)
 
   -- the end is known behind it
   pub gone_comes :
@@ -280,7 +303,7 @@ module _ {S C : Type 0} (law : NotesAreLines) (at : StepAt S C) (stops : List (L
       ≡ flat_map (note_line at.moment at.side) out.notes
       ++ flat_map (note_line at.moment at.side) (printed (wrote out.line.items))
       → Does (with_end a next room a.stop) (c None) None (Writes entries ∷ sends out.line.items) result)
-      → Comes known left end a c (made at stops asked went) result
+      → Comes known left end a c (made at stops asked fills went) result
   gone_comes known left end a c next room is gone used so None does =
       (gone_runs a (c None) next room gone used None does, so, is ∙ gone_end next gone)
   gone_comes known left end a c next room is gone used so (Some how) does =
@@ -289,7 +312,7 @@ module _ {S C : Type 0} (law : NotesAreLines) (at : StepAt S C) (stops : List (L
   -- memory runs out in it
   pub lacks_memory : (a : Scene S C) → at.state ≡ a.end → (end : S) (room : Asked)
       → Runs a (with_end a end room (Some (record { at = at; out = out; why = stop.NoMemory })))
-      (made at stops asked went) (Some NoMemory)
+      (made at stops asked fills went) (Some NoMemory)
   lacks_memory a here end room = go went
     where
       all : List (List Entry)
@@ -318,7 +341,7 @@ module _ {S C : Type 0} (law : NotesAreLines) (at : StepAt S C) (stops : List (L
 
       go : (went : Went S Happening)
           → Runs a (with_end a end room (Some (record { at = at; out = out; why = stop.NoMemory })))
-          (made at stops asked went) (Some NoMemory)
+          (made at stops asked fills went) (Some NoMemory)
       go (Goes step) =
           lacks (Some step.next)
           (Writes (entries_at at.side at.moment (step.notes ++ wrote step.written)) ∷ sends step.written)
@@ -330,21 +353,21 @@ module _ {S C : Type 0} (law : NotesAreLines) (at : StepAt S C) (stops : List (L
       abbrev pub stopped : Stop → Scene S C
       stopped why = with_out (with_end a end room (Some (record { at = at; out = out; why = why }))) r' k'
 
-      -- the numbers are spent: its lines are the last
+      -- it ends early: its lines are the last
       spent_does :
-          (entries : List Entry) (text : List ℕ) → text_of entries ≡ text → (result : Ending)
-          → EndsWith (written a (with_out a r' k')) text NumbersSpent result
-          → Does a (stopped stop.NumbersSpent) (Some NumbersSpent) (stands at stops asked None ∷ Writes entries ∷ [])
-          (Some result)
-      spent_does entries text is result ends = go result ends
+          (store : Bool) (entries : List Entry) (text : List ℕ) → text_of entries ≡ text → (result : Ending)
+          → EndsWith (written a (with_out a r' k')) text (spent_for store) result
+          → Does a (stopped (stop_for store)) (Some (spent_for store))
+          (stands at stops asked None ∷ Writes entries ∷ []) (Some result)
+      spent_does store entries text is result ends = go result ends
         where
           all : List (List Entry)
           all = map (entries_at at.side at.moment) stops
 
           stop_at : Option (StopAt S C)
-          stop_at = Some (record { at = at; out = out; why = stop.NumbersSpent })
+          stop_at = Some (record { at = at; out = out; why = stop_for store })
 
-          linked : Linked a (stopped stop.NumbersSpent) (Stands at all asked None ∷ [])
+          linked : Linked a (stopped (stop_for store)) (Stands at all asked None ∷ [])
           linked = record {
             listed = lists_still a.contents a.contents (Stands at all asked None ∷ []) refl refl refl;
             clock = refl;
@@ -354,7 +377,7 @@ module _ {S C : Type 0} (law : NotesAreLines) (at : StepAt S C) (stops : List (L
           begun : Made a (with_end a end room stop_at) (Stands at all asked None ∷ [])
           begun = made_step a end room stop_at at all asked None
 
-          spent : (more : List (Act S C)) → IsSpent a (stopped stop.NumbersSpent) (Stands at all asked None ∷ more)
+          spent : (more : List (Act S C)) → IsSpent a (stopped (stop_for store)) (Stands at all asked None ∷ more)
           spent more = record {
             first = [];
             at = at;
@@ -364,18 +387,22 @@ module _ {S C : Type 0} (law : NotesAreLines) (at : StepAt S C) (stops : List (L
             whole = refl;
             before = here;
             out = out;
+            fills = store;
             stop = refl;
           }
 
-          go : (result : Ending) → EndsWith (written a (with_out a r' k')) text NumbersSpent result
-              → Does a (stopped stop.NumbersSpent) (Some NumbersSpent)
+          done : WroteText (written a (with_out a r' k')) text
+              → Made a (stopped (stop_for store)) (Stands at all asked None ∷ Writes entries ∷ [])
+          done wrote =
+              made_both (stopped (stop_for store)) (Stands at all asked None ∷ []) [] (Writes entries ∷ []) begun
+              (wrote_made (with_end a end room stop_at) r' k' entries text is wrote)
+
+          go : (result : Ending) → EndsWith (written a (with_out a r' k')) text (spent_for store) result
+              → Does a (stopped (stop_for store)) (Some (spent_for store))
               (Stands at all asked None ∷ Writes entries ∷ []) (Some result)
-          go NumbersSpent ends = (
-            refl,
-            made_both (stopped stop.NumbersSpent) (Stands at all asked None ∷ []) [] (Writes entries ∷ []) begun
-                (wrote_made (with_end a end room stop_at) r' k' entries text is ends.1),
-            spent (Writes entries ∷ []),
-          )
+          go NumbersSpent ends =
+              (ap Some ends.0, done ends.1, (spent (Writes entries ∷ []), by_numbers store ends.0))
+          go Full ends = (ap Some ends.0, done ends.1, (spent (Writes entries ∷ []), by_store store ends.0))
           go WriteFailed short = record {
             done = Stands at all asked None ∷ [];
             entries = entries;
@@ -396,24 +423,27 @@ module _ {S C : Type 0} (law : NotesAreLines) (at : StepAt S C) (stops : List (L
             made = record { linked = linked; carried = carried_none a.link; wrote = none };
             end = inr (inl (spent []));
           }
-          go Stopped ends = let is = ends.0 in absurd (cc)
-          go Closed ends = let is = ends.0 in absurd (cc)
-          go Turns ends = let is = ends.0 in absurd (cc)
+          go Stopped ends = absurd (never_stops store ends.0)
+          go Closed ends = absurd (never_closes store ends.0)
+          go Turns ends = absurd (never_turns store ends.0)
           go DiskFailed ends = absurd ends
           go LinkFailed ends = absurd ends
 
-      pub spent_runs : (spent : HasSpent went out) (result : Ending)
+      pub spent_runs : (store : Bool) → fills ≡ store → (spent : HasSpent went out) (result : Ending)
           → EndsWith (written a (with_out a r' k')) (flat_map
-          (note_line at.moment at.side) out.notes) NumbersSpent result
-          → Runs a (stopped stop.NumbersSpent) (made at stops asked went) (Some result)
-      spent_runs spent result ends =
-          subst
-          (λ (went : Went S Happening). Runs a (stopped stop.NumbersSpent) (made at stops asked went) (Some result))
+          (note_line at.moment at.side) out.notes) (spent_for store) result
+          → Runs a (stopped (stop_for store)) (made at stops asked fills went) (Some result)
+      spent_runs store is spent result ends =
+          subst (λ (f : Bool). Runs a (stopped (stop_for store)) (made at stops asked f went) (Some result)) (sym is)
+          (subst
+          (λ (went : Went S Happening). Runs a (stopped (stop_for store)) (made at stops asked store went)
+          (Some result))
           (sym spent.is)
-          (spent_does (entries_at at.side at.moment spent.step.notes) (flat_map (note_line at.moment at.side) out.notes)
+          (spent_does store (entries_at at.side at.moment spent.step.notes)
+          (flat_map (note_line at.moment at.side) out.notes)
           (noted_text law at.side at.moment spent.step.notes
           ∙ ap (flat_map (note_line at.moment at.side)) (sym spent.notes))
-          result ends)
+          result ends))
 
       -- the disk stops it, whatever it was to write then
       disk_stops :
@@ -458,7 +488,7 @@ module _ {S C : Type 0} (law : NotesAreLines) (at : StepAt S C) (stops : List (L
       pub stopped_runs :
           HasStopped stops went out → IsShort a.room asked
           → PutsAsCan (written a (with_out a r' k')) (flat_map (note_line at.moment at.side) out.notes)
-          → Runs a (stopped stop.DiskFailed) (made at stops asked went) (Some DiskFailed)
+          → Runs a (stopped stop.DiskFailed) (made at stops asked fills went) (Some DiskFailed)
       stopped_runs halt short puts = go went halt.first
         where
           front_more : (notes last : List Happening) → IsFront halt.front notes → IsFront halt.front (notes ++ last)
@@ -469,7 +499,7 @@ module _ {S C : Type 0} (law : NotesAreLines) (at : StepAt S C) (stops : List (L
           }
 
           go : (went : Went S Happening) → IsFront halt.front (step_in went).notes
-              → Runs a (stopped stop.DiskFailed) (made at stops asked went) (Some DiskFailed)
+              → Runs a (stopped stop.DiskFailed) (made at stops asked fills went) (Some DiskFailed)
           go (Goes step) first =
               disk_stops halt (Some step.next) (step.notes ++ wrote step.written) (sends step.written)
               (front_more step.notes (wrote step.written) first) short puts

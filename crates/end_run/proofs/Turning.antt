@@ -131,7 +131,7 @@ pub closed_runs :
     → Runs a (with_out a r' k') (closed side now s) (Some result)
 closed_runs a r' k' side now s result ends =
     ends_does a r' k' (entries_at side now (Closed ∷ [])) (text_of (entries_at side now (Closed ∷ []))) refl
-    ending.Closed result (λ is. cc) ends
+    ending.Closed result (λ is. cc) (λ is. cc) ends
 
 pub if_on : (result : Option Ending) (P : Type 0) → P → IfOn result P
 if_on None P holds = holds

@@ -19,7 +19,7 @@ pub record StepAt (S C : Type 0) : Type 0 where
   pub input : Input C
 
 -- it makes a step: its disk is asked for so much, and may stop it with these entries, one list for each piece of work;
--- the end is this behind it, of which nothing is said where its numbers were spent. It connects. It waits up to a
+-- the end is this behind it, of which nothing is said where it ended early. It connects. It waits up to a
 -- moment, and is answered so. It writes the lines of these entries, the newest entry first. It sends characters
 pub data Act (S C : Type 0) : Type 0 where
   Stands : (at : StepAt S C) (stops : List (List Entry)) (asked : Asked) (end : Option S) → Act S C

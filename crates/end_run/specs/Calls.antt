@@ -15,7 +15,7 @@ use Rattle.message_end.specs.Ends.{Input, Machine}
 use Rattle.message_end.specs.Ends.Input.{Char, Command, Time}
 use Rattle.message_flow.specs.declared.step.StepOut.{StepOut}
 use Rattle.end_run.specs.declared.ending.Ending.{Ending}
-use Rattle.end_run.specs.declared.ending.Ending.TheVariants.{Closed, DiskFailed, LinkFailed, NoMemory, NumbersSpent, Stopped, Turns, WriteFailed}
+use Rattle.end_run.specs.declared.ending.Ending.TheVariants.{Closed, DiskFailed, Full, LinkFailed, NoMemory, NumbersSpent, Stopped, Turns, WriteFailed}
 use Rattle.end_run.specs.declared.polls.Place.{Place}
 use Rattle.end_run.specs.Outcome.{Comes, IfOn}
 use Rattle.end_run.specs.Run.{turned}
@@ -37,6 +37,7 @@ IsExact Stopped = Unit {0}
 IsExact Closed = Unit {0}
 IsExact Turns = Unit {0}
 IsExact NumbersSpent = Unit {0}
+IsExact Full = Unit {0}
 IsExact DiskFailed = ⊥
 IsExact LinkFailed = ⊥
 IsExact WriteFailed = ⊥
@@ -60,6 +61,7 @@ EndsWith out text how Stopped = (how ≡ Stopped) × WroteText out text
 EndsWith out text how Closed = (how ≡ Closed) × WroteText out text
 EndsWith out text how Turns = (how ≡ Turns) × WroteText out text
 EndsWith out text how NumbersSpent = (how ≡ NumbersSpent) × WroteText out text
+EndsWith out text how Full = (how ≡ Full) × WroteText out text
 EndsWith out text how DiskFailed = ⊥
 EndsWith out text how LinkFailed = ⊥
 

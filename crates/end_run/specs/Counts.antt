@@ -7,7 +7,7 @@ use Rattle.gl_base.specs.declared.sink.Sink as sink
 use Rattle.message_end.specs.declared.end.Stop.{Stop}
 use Rattle.message_end.specs.declared.end.Stop.TheVariants as stop
 use Rattle.end_run.specs.declared.ending.Ending.{Ending}
-use Rattle.end_run.specs.declared.ending.Ending.TheVariants.{Closed, DiskFailed, LinkFailed, NoMemory, NumbersSpent, Stopped, Turns, WriteFailed}
+use Rattle.end_run.specs.declared.ending.Ending.TheVariants.{Closed, DiskFailed, Full, LinkFailed, NoMemory, NumbersSpent, Stopped, Turns, WriteFailed}
 
 -- ---- the end's disk
 
@@ -31,6 +31,7 @@ abbrev pub StepCounts : {F : Type 0} → Device F → Device F → Result (Unit 
 StepCounts before now (Ok done) = now ≡ before
 StepCounts before now (Err stop.DiskFailed) = DeviceFails before now
 StepCounts before now (Err stop.NumbersSpent) = now ≡ before
+StepCounts before now (Err stop.Full) = now ≡ before
 StepCounts before now (Err stop.NoMemory) = now ≡ before
 
 -- ---- all three
@@ -59,6 +60,7 @@ Counts a b (Some Stopped) = CountsNone a b
 Counts a b (Some Closed) = CountsNone a b
 Counts a b (Some Turns) = CountsNone a b
 Counts a b (Some NumbersSpent) = CountsNone a b
+Counts a b (Some Full) = CountsNone a b
 Counts a b (Some DiskFailed) =
     (b.link ≡ a.link) × ((b.out ≡ a.out) ⊎ Rose a.out b.out) × DeviceFails a.disk b.disk
 Counts a b (Some LinkFailed) = Rose a.link b.link × (b.out ≡ a.out) × (b.disk ≡ a.disk)

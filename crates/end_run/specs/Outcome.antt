@@ -1,5 +1,5 @@
 -- What a run has made of its link, its output and its end, by how it ended (this profile).
-use Rattle.std.specs.Prelude.{◌≡◌, ◌⊎◌, ℕ, ◌<◌, List, [], ◌∷◌, ◌++◌, length, take, Option, Some, None}
+use Rattle.std.specs.Prelude.{◌≡◌, ◌⊎◌, ℕ, ◌<◌, Bool, true, false, List, [], ◌∷◌, ◌++◌, length, take, Option, Some, None}
 use Rattle.gl_base.specs.Link.{IsCarriedOn, LinkContents, LinkFault}
 use Rattle.gl_base.specs.Sending.{WroteText}
 use Rattle.gl_base.specs.Sink.{WriteFault, with_bytes}
@@ -12,7 +12,7 @@ use Rattle.message_flow.specs.declared.step.StepOut.{StepOut}
 use Rattle.trace_log.specs.Log.{Entry, Happening}
 use Rattle.trace_log.specs.Text.{text_of}
 use Rattle.end_run.specs.declared.ending.Ending.{Ending}
-use Rattle.end_run.specs.declared.ending.Ending.TheVariants.{Closed, DiskFailed, LinkFailed, NoMemory, NumbersSpent, Stopped, Turns, WriteFailed}
+use Rattle.end_run.specs.declared.ending.Ending.TheVariants.{Closed, DiskFailed, Full, LinkFailed, NoMemory, NumbersSpent, Stopped, Turns, WriteFailed}
 use Rattle.end_run.specs.Acts.{Act, StepAt, AreTimely, asked_by, end_by, lines_of, list_of, listed, moment_by, taken_of}
 use Rattle.end_run.specs.Acts.Act.{Connects, Polls, Sends, Stands, Writes}
 use Rattle.end_run.specs.Pieces.{Piece}
@@ -64,7 +64,13 @@ pub record GoesOn {S C : Type 0} (a b : Scene S C) (done : List (Act S C)) : Typ
   pub end : IsLeft (end_by (Some a.end) done) b.end
   pub stop : b.stop ≡ a.stop
 
--- its numbers were spent in one of these acts, from the state that the acts before have left
+-- what has ended a step early
+abbrev pub stop_for : (fills : Bool) → Stop
+stop_for true = stop.Full
+stop_for false = stop.NumbersSpent
+
+-- one of these acts ended early, from the state that the acts before have left: it was to fill the end's own store, or
+-- its numbers were spent
 pub record IsSpent {S C : Type 0} (a b : Scene S C) (acts : List (Act S C)) : Type 0 where
   pub first : List (Act S C)
   pub at : StepAt S C
@@ -74,7 +80,11 @@ pub record IsSpent {S C : Type 0} (a b : Scene S C) (acts : List (Act S C)) : Ty
   pub whole : acts ≡ first ++ Stands at stops asked None ∷ later
   pub before : IsLeft (end_by (Some a.end) first) at.state
   pub out : StepOut
-  pub stop : b.stop ≡ Some (record { at = at; out = out; why = stop.NumbersSpent })
+  pub fills : Bool
+  pub stop : b.stop ≡ Some (record { at = at; out = out; why = stop_for fills })
+
+abbrev pub IsSpentFor : {S C : Type 0} → (fills : Bool) → Scene S C → Scene S C → List (Act S C) → Type 0
+IsSpentFor fills a b acts = (spent : IsSpent a b acts) × (spent.fills ≡ fills)
 
 -- memory ran out in the step that was next, from the state that these acts have left
 pub record LacksMemory {S C : Type 0} (a b : Scene S C) (done later : List (Act S C)) : Type 0 where
@@ -113,7 +123,7 @@ pub record LinkFails {S C : Type 0} (a b : Scene S C) (acts : List (Act S C)) : 
   pub end : GoesOn a b done
 
 -- a write failed: all that stands before it was done, and only some of its lines, from their front, were written. They
--- may be those of a step in which the numbers were spent
+-- may be those of a step that ended early
 pub record WriteFails {S C : Type 0} (a b : Scene S C) (acts : List (Act S C)) : Type 0 where
   pub done : List (Act S C)
   pub entries : List Entry
@@ -164,8 +174,8 @@ pub record DiskFails {S C : Type 0} (a b : Scene S C) (acts : List (Act S C)) : 
   pub put : PutsLast a b (lines_of done) (text_of entries)
   pub short : IsShort a.room (asked_both (asked_by done) asked)
 
--- memory ran out: some of the acts, from their front, were done. It ran out behind a step, in one in which the numbers
--- were spent, or in the next step
+-- memory ran out: some of the acts, from their front, were done. It ran out behind a step, in one that ended early, or
+-- in the next step
 pub record MadePart {S C : Type 0} (a b : Scene S C) (acts : List (Act S C)) : Type 0 where
   pub done : List (Act S C)
   pub later : List (Act S C)
@@ -181,7 +191,8 @@ Does a b how acts None = (how ≡ None) × Did a b acts
 Does a b how acts (Some Stopped) = (how ≡ Some Stopped) × Did a b acts
 Does a b how acts (Some Closed) = (how ≡ Some Closed) × Did a b acts
 Does a b how acts (Some Turns) = (how ≡ Some Turns) × Did a b acts
-Does a b how acts (Some NumbersSpent) = (how ≡ Some NumbersSpent) × Made a b acts × IsSpent a b acts
+Does a b how acts (Some NumbersSpent) = (how ≡ Some NumbersSpent) × Made a b acts × IsSpentFor false a b acts
+Does a b how acts (Some Full) = (how ≡ Some Full) × Made a b acts × IsSpentFor true a b acts
 Does a b how acts (Some DiskFailed) = DiskFails a b acts
 Does a b how acts (Some LinkFailed) = LinkFails a b acts
 Does a b how acts (Some WriteFailed) = WriteFails a b acts

@@ -1,5 +1,5 @@
 -- One step of an end over a link, and the lines of a script as steps (this profile).
-use Rattle.std.specs.Prelude.{ℕ, List, [], ◌∷◌, ◌++◌, map, Option, Some, None}
+use Rattle.std.specs.Prelude.{ℕ, Bool, true, false, List, [], ◌∷◌, ◌++◌, map, Option, Some, None}
 use Rattle.gl_base.specs.declared.side.Side.{Side}
 use Rattle.line_schedule.specs.declared.script.ScriptStep.{ScriptStep}
 use Rattle.message_end.specs.Core.{Step, Went}
@@ -8,6 +8,7 @@ use Rattle.message_end.specs.Ends.{Asked, Input, Machine, wrote}
 use Rattle.message_end.specs.Ends.Input.{Command}
 use Rattle.trace_log.specs.Laws.{log_with}
 use Rattle.trace_log.specs.Log.{Entry, Happening}
+use Rattle.end_run.specs.declared.ending.Ending.{Ending}
 use Rattle.end_run.specs.declared.ending.Ending.TheVariants as ending
 use Rattle.end_run.specs.Acts.{Act, StepAt}
 use Rattle.end_run.specs.Acts.Act.{Connects, Sends, Stands, Writes}
@@ -28,20 +29,26 @@ sends (byte ∷ bytes) = Sends (byte ∷ bytes) ∷ []
 abbrev pub stands : {S C : Type 0} → StepAt S C → List (List Happening) → Asked → Option S → Act S C
 stands at stops asked end = Stands at (map (entries_at at.side at.moment) stops) asked end
 
--- a step is made, its lines are written, and then its characters are sent; where the numbers are spent nothing is sent,
--- and the run ends
-abbrev pub made : {S C : Type 0} → StepAt S C → List (List Happening) → Asked → Went S Happening → Piece S C
-made at stops asked (Goes step) = record {
+-- what ends a step early: the end's own store has no room for what it must put, or its numbers are spent
+abbrev pub spent_for : (fills : Bool) → Ending
+spent_for true = ending.Full
+spent_for false = ending.NumbersSpent
+
+-- a step is made, its lines are written, and then its characters are sent; where it ends early nothing is sent, and the
+-- run ends
+abbrev pub made :
+    {S C : Type 0} → StepAt S C → List (List Happening) → Asked → (fills : Bool) → Went S Happening → Piece S C
+made at stops asked fills (Goes step) = record {
   end = step.next;
   acts =
       stands at stops asked (Some step.next)
       ∷ Writes (entries_at at.side at.moment (step.notes ++ wrote step.written)) ∷ sends step.written;
   ended = None;
 }
-made at stops asked (Spent step) = record {
+made at stops asked fills (Spent step) = record {
   end = step.next;
   acts = stands at stops asked None ∷ Writes (entries_at at.side at.moment step.notes) ∷ [];
-  ended = Some ending.NumbersSpent;
+  ended = Some (spent_for fills);
 }
 
 -- the lines of a start are written before the end connects
@@ -58,7 +65,8 @@ step_at side now input s = record { side = side; moment = now; state = s; input 
 module _ {S C : Type 0} (machine : Machine S C) (side : Side) where
   abbrev pub stepped : ℕ → Input C → S → Piece S C
   stepped now input s =
-      made (step_at side now input s) (machine.stops s input now) (machine.asks s input now) (machine.act s input now)
+      made (step_at side now input s) (machine.stops s input now) (machine.asks s input now)
+      (machine.fills s input now) (machine.act s input now)
 
   -- a line of a script is a step with its command, or stops the end; one of the other end does nothing
   abbrev pub tells : ℕ → Telling C → S → Piece S C

@@ -11,6 +11,9 @@ pub enum Ending {
     Turns,
     /// The end needed a number, and had none. The lines of its step were written, and nothing of it was sent.
     NumbersSpent,
+    /// The end had no room in its own store for what a step must put there. The lines of that step were written, and
+    /// nothing of it was sent.
+    Full,
     /// A call of the end's disk failed in a step. The lines of the steps before were written, and of this one what it
     /// had noted by then, as far as memory and the output let it; nothing of it was sent.
     DiskFailed,

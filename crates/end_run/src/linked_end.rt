@@ -57,9 +57,10 @@ pub trait LinkedEnd {
     // What a line of a script tells it.
     ghost told: { ScriptStep → Telling Self.Command };
 
-    /// One step. `NumbersSpent` comes where it needs a number and has none, `DiskFailed` where a call of its disk
-    /// failed, `NoMemory` where memory ran out. On an ending the notes keep what was noted before it; the end makes no
-    /// step any more. An end of which nothing is known may answer anything, but counts the fault that it answers.
+    /// One step. `NumbersSpent` comes where it needs a number and has none, `Full` where its own store has no room,
+    /// `DiskFailed` where a call of its disk failed, `NoMemory` where memory ran out. On an ending the notes keep what
+    /// was noted before it; the end makes no step any more. An end of which nothing is known may answer anything, but
+    /// counts the fault that it answers.
     fn step(
         &mut self,
         alloc: Global,
@@ -73,6 +74,7 @@ pub trait LinkedEnd {
         requires out { IsEmpty out.old }
         ensures step { known self.old → Leaves
             (machine.stops (means self.old) (input_of input.entry) now)
+            (machine.fills (means self.old) (input_of input.entry) now)
             (machine.act (means self.old) (input_of input.entry) now)
             (means self.new)
             out.new

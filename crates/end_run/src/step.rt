@@ -106,6 +106,9 @@ pub(crate) fn step_end<E: LinkedEnd, L: Link, W: Sink>(
                 out,
             ));
         }
+        Err(Stop::Full) => {
+            return Some(end_with(alloc, now, side, step.notes.as_slice(), Ending::Full, out));
+        }
         Err(Stop::DiskFailed) => {
             return Some(put_stopped(alloc, now, side, step.notes.as_slice(), out));
         }

@@ -95,7 +95,7 @@ by-note :
 by-note moment at asked Happening.StepEnded before are next rest is = absurd (none-some asked None refl is)
 by-note moment at asked (Happening.EquipmentStarted found base) before are next rest is =
     absurd (none-some asked None refl is)
-by-note moment at asked Happening.HostStarted before are next rest is = absurd (none-some asked None refl is)
+by-note moment at asked (Happening.HostStarted journal) before are next rest is = absurd (none-some asked None refl is)
 by-note moment at asked (Happening.Sent message) before are next rest is =
     sent-behind (is_primary message) moment at asked (Happening.Sent message) before are next rest is
 by-note moment at asked (Happening.Received message) before are next rest is =

@@ -1,5 +1,6 @@
 -- Events that are carried out one after the other, as their lines are counted.
 use Rattle.std.proofs.Common.{◌≡◌, ◌≢◌, ◌++◌, ℕ, List, [], ◌∷◌, refl, sym, ap, subst, ◌∙◌, append-nil, Result, Ok, Err}
+use Rattle.gl_base.specs.declared.side.Side.{Side}
 use Rattle.end_pair.specs.Kept.{Comes, IfWent, IsPowered, Puts}
 use Rattle.end_pair.specs.Run.{whole_log}
 use Rattle.end_pair.specs.World.{Piece, World, and_more, and_on, still}
@@ -17,26 +18,18 @@ use Rattle.line_world.proofs.Lines.{counts-on}
 
 if-went : {P Q : Type 0} → (P → Q) → (answer : WorldStep) → IfWent answer P → IfWent answer Q
 if-went more went.Went is = more is
-if-went more went.Slip is = tt
-if-went more went.Turns is = tt
-if-went more went.NumbersSpent is = tt
-if-went more went.PowerLost is = tt
-if-went more went.NoMemory is = tt
+if-went more other is = tt
 
 not-went : (P : Type 0) (answer : WorldStep) → answer ≢ went.Went → IfWent answer P
 not-went P went.Went stops = absurd (stops refl)
-not-went P went.Slip stops = tt
-not-went P went.Turns stops = tt
-not-went P went.NumbersSpent stops = tt
-not-went P went.PowerLost stops = tt
-not-went P went.NoMemory stops = tt
+not-went P other stops = tt
 
 module _ {S T : Type 0} where
   abbrev same : World S T → World S T
   same world = world
 
-  abbrev None : World S T → World S T → Type 0
-  None now left = Unit {0}
+  abbrev None : Side → World S T → World S T → Type 0
+  None side now left = Unit {0}
 
   abbrev ComesTo : Piece S T → World S T → List ℕ → List ℕ → WorldStep → Type 0
   ComesTo piece now old lines answer = Comes same None piece now old lines answer
@@ -156,21 +149,13 @@ module _ {S T : Type 0} where
       (answer : WorldStep) (left whole : Piece S T) (now : World S T) (before after : Counts)
       → answer ≢ went.Went → Makes whole now before after answer → CarriesOn answer left whole now before after
   carries-stop went.Went left whole now before after stops makes = absurd (stops refl)
-  carries-stop went.Slip left whole now before after stops makes = makes
-  carries-stop went.Turns left whole now before after stops makes = makes
-  carries-stop went.NumbersSpent left whole now before after stops makes = makes
-  carries-stop went.PowerLost left whole now before after stops makes = makes
-  carries-stop went.NoMemory left whole now before after stops makes = makes
+  carries-stop other left whole now before after stops makes = makes
 
   pub ends-with :
       (answer : WorldStep) (left whole : Piece S T) (now : World S T) (before after : Counts)
       → answer ≢ went.Went → CarriesOn answer left whole now before after → Makes whole now before after answer
   ends-with went.Went left whole now before after stops carries = absurd (stops refl)
-  ends-with went.Slip left whole now before after stops carries = carries
-  ends-with went.Turns left whole now before after stops carries = carries
-  ends-with went.NumbersSpent left whole now before after stops carries = carries
-  ends-with went.PowerLost left whole now before after stops carries = carries
-  ends-with went.NoMemory left whole now before after stops carries = carries
+  ends-with other left whole now before after stops carries = carries
 
   -- with another piece left
   pub carries-as :
@@ -213,7 +198,8 @@ module _ {S T : Type 0} where
   ended-on-way piece now before after went.Slip stops makes = makes.comes.puts.0
   ended-on-way piece now before after went.Turns stops makes = makes.comes.puts.0
   ended-on-way piece now before after went.NumbersSpent stops makes = makes.comes.puts.0
-  ended-on-way piece now before after went.PowerLost stops makes = absurd makes.powered
+  ended-on-way piece now before after went.JournalFull stops makes = makes.comes.puts.0
+  ended-on-way piece now before after (went.PowerLost side) stops makes = absurd makes.powered
   ended-on-way piece now before after went.NoMemory stops makes = tt
 
   -- and that went on no further at its start
@@ -225,7 +211,8 @@ module _ {S T : Type 0} where
   begins-not first lines old went.Slip puts stops powered = puts.0
   begins-not first lines old went.Turns puts stops powered = puts.0
   begins-not first lines old went.NumbersSpent puts stops powered = puts.0
-  begins-not first lines old went.PowerLost puts stops powered = absurd powered
+  begins-not first lines old went.JournalFull puts stops powered = puts.0
+  begins-not first lines old (went.PowerLost side) puts stops powered = absurd powered
   begins-not first lines old went.NoMemory puts stops powered = tt
 
   pub counted-first : (first : Piece S T) (more : World S T → Piece S T) (stop : WorldStep) → Counted first (Err stop)
@@ -241,7 +228,8 @@ module _ {S T : Type 0} where
       go went.Slip counted = so went.Slip counted refl
       go went.Turns counted = so went.Turns counted refl
       go went.NumbersSpent counted = so went.NumbersSpent counted refl
-      go went.PowerLost counted = counted
+      go went.JournalFull counted = so went.JournalFull counted refl
+      go (went.PowerLost side) counted = counted
       go went.NoMemory counted = counted
 
   pub closes-all :
@@ -252,8 +240,4 @@ module _ {S T : Type 0} where
       counts-whole piece now counts after moment makes
       (is ∙ ap (λ (world : World S T). world.moment) makes.comes.world) closed
   closes-all piece now counts moment (Err went.NoMemory) makes is closed = tt
-  closes-all piece now counts moment (Err went.Went) makes is closed = absurd closed
-  closes-all piece now counts moment (Err went.Slip) makes is closed = absurd closed
-  closes-all piece now counts moment (Err went.Turns) makes is closed = absurd closed
-  closes-all piece now counts moment (Err went.NumbersSpent) makes is closed = absurd closed
-  closes-all piece now counts moment (Err went.PowerLost) makes is closed = absurd closed
+  closes-all piece now counts moment (Err other) makes is closed = absurd closed

@@ -11,7 +11,7 @@ use Rattle.tool_reports.specs.Laws.{ReportsAreOfTheirEvents}
 use Rattle.tool_reports.specs.Reported.{Reported}
 use Rattle.tool_spool.specs.LeavesInStep.{LeaveInTheirSteps, MessagesLeaveInStep}
 use Rattle.tool_spool.specs.MadeRoom.{MakesRoomForPuts, OverwritesForPuts}
-use Rattle.spool_slots.specs.Format.{empty_file}
+use Rattle.spool_file.specs.Format.{empty_file}
 use Rattle.tool_spool.specs.SpoolKept.{MayHold, SpoolIsKept, policy_of}
 use Rattle.equipment_tables.specs.Plan.{PlansFit}
 use Rattle.equipment_tables.specs.declared.plan.Plans.{Plans}

@@ -1,5 +1,5 @@
 -- The run over the spool's disk: it starts on an empty spool.
-use Rattle.std.proofs.Common.{◌≡◌, ◌<◌, ◌≤◌, ◌+◌, ◌^◌, ◌==◌, ◌&&◌, nat_le, ℕ, zero, suc, Bool, false, List, [], ◌∷◌}
+use Rattle.std.proofs.Common.{◌≡◌, ◌≢◌, ◌<◌, ◌≤◌, ◌+◌, ◌^◌, ◌==◌, ◌&&◌, nat_le, ℕ, zero, suc, Bool, false, List, [], ◌∷◌}
 use Rattle.std.proofs.Common.{◌++◌, replicate, Option, refl, sym, ap, subst, ◌∙◌, arith}
 use Rattle.std.proofs.lemmas.List.{get_or_past, replicate-append-replicate}
 use Rattle.std.proofs.lemmas.Nat.{from_be_bytes-to_be_bytes_4}
@@ -9,6 +9,8 @@ use Rattle.end_pair.specs.Run as pair
 use Rattle.end_pair.specs.Run.{HandsBack}
 use Rattle.end_pair.specs.World.{World}
 use Rattle.end_pair.specs.declared.answers.RunEnd.{RunEnd}
+use Rattle.end_pair.specs.declared.answers.RunEnd.TheVariants as end
+use Rattle.end_pair.specs.declared.answers.WorldStep.TheVariants as went
 use Rattle.tool_step.specs.End as equipment
 use Rattle.spool_works.specs.Found.{first_in}
 use Rattle.tool_step.specs.Equipment.{starts}
@@ -19,19 +21,20 @@ use Rattle.equipment_tables.specs.declared.plan.Plans.{Plans}
 use Rattle.gem_spool.specs.declared.spool.GemSpool.{GemSpool}
 use Rattle.gl_base.specs.Told.{SinkTold}
 use Rattle.host_node.specs.Host as host
+use Rattle.line_schedule.specs.declared.event.Event.{Event}
 use Rattle.line_schedule.specs.declared.schedule.Schedule.{Schedule}
 use Rattle.message_end.specs.Core.{Step, Went, step_in}
 use Rattle.message_end.specs.Core.Went.{Goes}
 use Rattle.message_end.specs.Ends.{Opens}
 use Rattle.gate_cell.specs.Cell.{copy_of}
-use Rattle.spool_slots.specs.File.{SpoolFile, file_in, gates_below, list_below, slot_message, slot_stands}
-use Rattle.spool_slots.specs.Format.{empty_file}
-use Rattle.spool_slots.specs.Front.{magic}
-use Rattle.spool_slots.specs.Slot.{Message, Slot, is_open, slot_in, slot_place}
-use Rattle.spool_slots.proofs.Areas.{none_there}
+use Rattle.spool_file.specs.File.{SpoolFile, file_in, gates_below, list_below, slot_message, slot_stands}
+use Rattle.spool_file.specs.Format.{empty_file}
+use Rattle.spool_file.specs.Front.{magic}
+use Rattle.spool_file.specs.Slot.{Message, Slot, is_open, slot_in, slot_place}
+use Rattle.spool_file.proofs.Areas.{none_there}
 use Rattle.trace_log.specs.Log.{Happening}
 use Rattle.line_world.specs.Disk.{IsEmptySpool}
-use Rattle.line_world.specs.Run.{EquipmentView, HostView, Runs, equipment_start, host_start, piece_of}
+use Rattle.line_world.specs.Run.{EquipmentView, HostView, Runs, equipment_start, host_start, piece_of, went_of}
 
 -- ---- the empty spool
 
@@ -123,27 +126,39 @@ blank-empty slots most = record {
 
 -- ---- the run, over the start that the value has
 
+-- a run that no full store has ended isn't told to be ended so
+pub ends-by-no-store :
+    (plans : Plans) (schedule : Schedule) (out : SinkTold) (ended : RunEnd) → went_of plans schedule ≢ went.JournalFull
+    → Runs out plans schedule ended → ended ≢ end.JournalFull
+ends-by-no-store plans schedule out end.JournalFull never runs is = never runs.0
+ends-by-no-store plans schedule out other never runs is = cc
+
 module _ (plans : Plans) (schedule : Schedule) (first : Step EquipmentView Happening)
-    (is : first ≡ equipment_start plans) where
+    (is : first ≡ equipment_start plans) (events : List Event) (same : events ≡ schedule.events) where
   pub runs-over :
       (out : SinkTold) (ended : RunEnd)
-      → pair.Runs out
-      (pair.trace_text equipment.machine host.host_machine first (host_start plans.host) schedule.events)
-      (pair.went_of equipment.machine host.host_machine first (host_start plans.host) schedule.events) ended
+      → pair.Runs out (pair.trace_text equipment.machine host.host_machine first (host_start plans.host) events)
+      (pair.went_of equipment.machine host.host_machine first (host_start plans.host) events) ended
       → Runs out plans schedule ended
   runs-over out ended runs =
       subst (λ (s : Step EquipmentView Happening).
       pair.Runs out (pair.trace_text equipment.machine host.host_machine s (host_start plans.host) schedule.events)
-      (pair.went_of equipment.machine host.host_machine s (host_start plans.host) schedule.events) ended) is runs
+      (pair.went_of equipment.machine host.host_machine s (host_start plans.host) schedule.events) ended) is
+      (subst (λ (them : List Event).
+      pair.Runs out (pair.trace_text equipment.machine host.host_machine first (host_start plans.host) them)
+      (pair.went_of equipment.machine host.host_machine first (host_start plans.host) them) ended) same runs)
 
   pub hands-over :
       {W : Type 0} (show : W → World EquipmentView HostView) (ended : RunEnd) (handed : Option W)
       → HandsBack show
-      (pair.piece_of equipment.machine host.host_machine first (host_start plans.host) schedule.events).world ended
-      handed
+      (pair.piece_of equipment.machine host.host_machine first (host_start plans.host) events).world ended handed
       → HandsBack show (piece_of plans schedule).world ended handed
   hands-over show ended handed hands =
       subst (λ (s : Step EquipmentView Happening).
       HandsBack show
       (pair.piece_of equipment.machine host.host_machine s (host_start plans.host) schedule.events).world ended handed)
-      is hands
+      is
+      (subst (λ (them : List Event).
+      HandsBack show
+      (pair.piece_of equipment.machine host.host_machine first (host_start plans.host) them).world ended handed) same
+      hands)

@@ -37,7 +37,8 @@ module _ (plans : Plans) (rounds : ℕ) (out : SinkTold) where
       go went.Slip counted = (counted, nothing)
       go went.Turns counted = (counted, nothing)
       go went.NumbersSpent counted = (counted, nothing)
-      go went.PowerLost counted = absurd counted
+      go went.JournalFull counted = (counted, nothing)
+      go (went.PowerLost side) counted = absurd counted
       go went.NoMemory counted = nothing
 
   pub stops-as :
@@ -66,4 +67,5 @@ module _ (plans : Plans) (rounds : ℕ) (out : SinkTold) where
       go end.Slip ends = absurd ends
       go end.Turns ends = absurd ends
       go end.NumbersSpent ends = absurd ends
+      go end.JournalFull ends = absurd ends
       go end.NoMemory ends = absurd ends

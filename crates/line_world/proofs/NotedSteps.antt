@@ -14,11 +14,12 @@ use Rattle.message_end.specs.Doings.Doing.{Says}
 use Rattle.message_end.specs.Log.{log_of, noted_of, with_note}
 use Rattle.message_end.specs.Moves.{Kind, LinePlans, Move}
 use Rattle.message_end.specs.Moves.Kind.{Added, Changed, Did, Lost, Started}
+use Rattle.message_end.specs.Starts.{IsStartOf}
+use Rattle.message_end.specs.Starts.IsStartOf.{of_equipment, of_host, of_journal}
 use Rattle.tool_law.specs.Laws.{DidOf}
 use Rattle.trace_log.specs.Log.{Entry, Happening}
 use Rattle.trace_log.specs.Log.Entry.{Ended, Noted, Slipped}
-use Rattle.trace_log.specs.Log.Happening.{EquipmentStarted, Power, StepEnded}
-use Rattle.trace_log.specs.Names.{Spooled}
+use Rattle.trace_log.specs.Log.Happening.{Power, StepEnded}
 use Rattle.line_world.specs.Safe.{HostDid, plans_of}
 use Rattle.line_world.specs.Steps.{IsOfAStep, MayStepBehind, NotesAreOfSteps, SafeLogsHaveSteps}
 
@@ -111,6 +112,13 @@ may-next : (moment : ℕ) (notes : List (ℕ × Happening)) → MayBegin notes �
 may-next moment [] may = tt
 may-next moment (note ∷ before) may = inr may
 
+-- a start
+start-may : (side : Side) (note : Happening) (base : ℕ) (before : List (ℕ × Happening)) → IsStartOf side note base
+    → MayStepBehind note before
+start-may _ _ _ before (of_equipment found base) = tt
+start-may _ _ _ before (of_host base) = tt
+start-may _ _ _ before (of_journal found base) = tt
+
 -- no step is under way behind these moves
 record AreBetween (side : Side) (moves : List Move) : Type 0 where
   so_far : NotesAreOfSteps (timed_at side moves)
@@ -151,7 +159,7 @@ fate-between :
     (side end : Side) (moment : ℕ) (kind : Kind) (before : List Move) → IsFate kind → AreBetween side before
     → AreBetween side (record { side = end; moment = moment; kind = kind } ∷ before)
 fate-between side end moment (Did doing) before fate are = absurd fate
-fate-between side end moment (Started found base) before fate are = absurd fate
+fate-between side end moment (Started note base) before fate are = absurd fate
 fate-between side end moment Lost before fate are = record { so_far = are.so_far; may = are.may }
 fate-between side end moment (Changed place byte) before fate are = record { so_far = are.so_far; may = are.may }
 fate-between side end moment (Added byte) before fate are = record { so_far = are.so_far; may = are.may }
@@ -169,43 +177,52 @@ module _ {S T : Type 0} (equipment : ℕ → List Doing → S → Type 0) (host 
 
   -- and the power that is lost then
   dark-timed :
-      (side : Side) (moment : ℕ) (before cut : List Move)
-      → IsCutBehind equipment host plans Equipment moment before cut → AreBetween side before
-      → AreTimed moment (timed_at side (power_at moment ∷ cut))
-  dark-timed side moment before cut is are =
-      note-timed side Equipment moment (Some Power) (log_of cut) (cut-timed side Equipment moment before cut is are)
+      (side end : Side) (moment : ℕ) (before cut : List Move)
+      → IsCutBehind equipment host plans end moment before cut → AreBetween side before
+      → AreTimed moment (timed_at side (power_at end moment ∷ cut))
+  dark-timed side end moment before cut is are =
+      note-timed side end moment (Some Power) (log_of cut) (cut-timed side end moment before cut is are)
 
-  -- the host may begin a step where it might before
+  -- the end that starts anew may begin a step, and the other one where it might before
   may-anew :
-      (side : Side) (moment : ℕ) (before cut : List Move) (found : List (ℕ × Spooled)) (base : ℕ)
-      → IsCutBehind equipment host plans Equipment moment before cut → AreBetween side before
-      → MayBegin (timed_at side (started_at Equipment moment found base ∷ power_at moment ∷ cut))
-  may-anew Equipment moment before cut found base is are = tt
-  may-anew Host moment before cut found base is are =
+      (side end : Side) (moment : ℕ) (before cut : List Move) (note : Happening) (base : ℕ) → IsStartOf end note base
+      → IsCutBehind equipment host plans end moment before cut → AreBetween side before
+      → MayBegin (timed_at side (started_at end moment note base ∷ power_at end moment ∷ cut))
+  may-anew Equipment Equipment moment before cut note base start is are =
+      start-may Equipment note base (timed_at Equipment (power_at Equipment moment ∷ cut)) start
+  may-anew Host Host moment before cut note base start is are =
+      start-may Host note base (timed_at Host (power_at Host moment ∷ cut)) start
+  may-anew Host Equipment moment before cut note base start is are =
       subst (λ (ms : List Move). MayBegin (timed_at Host ms)) (sym is.is)
       (subst MayBegin (sym (host-untold moment is.done before)) are.may)
+  may-anew Equipment Host moment before cut note base start is are =
+      subst (λ (ms : List Move). MayBegin (timed_at Equipment ms)) (sym is.is)
+      (subst MayBegin (sym (equipment-untold moment is.done before)) are.may)
 
-  begins : (side : Side) (found found_there : List (ℕ × Spooled)) (base base_there : ℕ)
-      → AreBetween side (started_at Host 0 found_there base_there ∷ started_at Equipment 0 found base ∷ [])
-  begins Equipment found found_there base base_there = record { so_far = (tt, tt); may = tt }
-  begins Host found found_there base base_there = record { so_far = (tt, tt); may = tt }
+  begins : (side : Side) (note note_there : Happening) (base base_there : ℕ) → IsStartOf Equipment note base
+      → IsStartOf Host note_there base_there
+      → AreBetween side (started_at Host 0 note_there base_there ∷ started_at Equipment 0 note base ∷ [])
+  begins Equipment note note_there base base_there start start_there =
+      record { so_far = (tt, tt); may = start-may Equipment note base [] start }
+  begins Host note note_there base base_there start start_there =
+      record { so_far = (tt, tt); may = start-may Host note_there base_there [] start_there }
 
   steps-between : (side : Side) (moves : List Move) → AreSteps equipment host plans moves → AreBetween side moves
-  steps-between side moves (both_start _ found found_there base base_there is at) =
-      subst (AreBetween side) (sym is) (begins side found found_there base base_there)
+  steps-between side moves (both_start _ note note_there base base_there is start start_there at) =
+      subst (AreBetween side) (sym is) (begins side note note_there base base_there start start_there)
   steps-between side moves (one_step _ before end moment done is step at steps) =
       subst (AreBetween side) (sym is)
       (step-between side end moment done before step (steps-between side before steps))
   steps-between side moves (line_changes _ before end moment kind is fate steps) =
       subst (AreBetween side) (sym is)
       (fate-between side end moment kind before fate (steps-between side before steps))
-  steps-between side moves (starts_anew _ cut before moment found base is is_cut at steps) =
+  steps-between side moves (starts_anew _ cut before end moment note base is start is_cut at steps) =
       let are = steps-between side before steps in
       subst (AreBetween side) (sym is) (record {
         so_far =
-            (note-timed side Equipment moment (Some (EquipmentStarted found base)) (log_of (power_at moment ∷ cut))
-            (dark-timed side moment before cut is_cut are)).so_far;
-        may = may-anew side moment before cut found base is_cut are;
+            (note-timed side end moment (Some note) (log_of (power_at end moment ∷ cut))
+            (dark-timed side end moment before cut is_cut are)).so_far;
+        may = may-anew side end moment before cut note base start is_cut are;
       })
 
   all-timed : (side : Side) (moves : List Move) → ComeInSteps equipment host plans moves
@@ -213,9 +230,9 @@ module _ {S T : Type 0} (equipment : ℕ → List Doing → S → Type 0) (host 
   all-timed side moves (at_a_step steps) = (steps-between side moves steps).so_far
   all-timed side moves (in_a_step before end moment cut steps) =
       (cut-timed side end moment before moves cut (steps-between side before steps)).so_far
-  all-timed side moves (without_power dark before moment is cut steps) =
+  all-timed side moves (without_power dark before end moment is cut steps) =
       subst (λ (ms : List Move). NotesAreOfSteps (timed_at side ms)) (sym is)
-      (dark-timed side moment before dark cut (steps-between side before steps)).so_far
+      (dark-timed side end moment before dark cut (steps-between side before steps)).so_far
 
 -- what stands behind the moves is no note
 no-notes-timed : (side : Side) (last log : List Entry) → AreNoNotes last

@@ -23,7 +23,7 @@ abbrev IsQuiet : Change → Type 0
 IsQuiet (Finds found) = ⊥
 IsQuiet (Stores number message) = ⊥
 IsQuiet (HasStored number) = Unit {0}
-IsQuiet (Leaves number why) = Unit {0}
+IsQuiet (Leaves number why room_for) = Unit {0}
 IsQuiet (HasGone number) = Unit {0}
 IsQuiet (Tries number system) = ⊥
 IsQuiet (Sends message) = ⊥
@@ -46,106 +46,12 @@ module _ (P : Happening → Type 0)
     (other : (what : Happening) → IsOther what → P what) where
   by-kind : (what : Happening) → P what
   by-kind (Happening.EquipmentStarted found base) = starts found base
-  by-kind Happening.HostStarted =
-      other Happening.HostStarted
-      (record { events = λ before. refl; tries = λ before. refl; tells = λ plan before. tt; quiet = tt })
-  by-kind Happening.Power =
-      other Happening.Power
-      (record { events = λ before. refl; tries = λ before. refl; tells = λ plan before. tt; quiet = tt })
-  by-kind Happening.Closed =
-      other Happening.Closed
-      (record { events = λ before. refl; tries = λ before. refl; tells = λ plan before. tt; quiet = tt })
   by-kind (Happening.Sent message) = sends message
-  by-kind (Happening.Received message) =
-      other (Happening.Received message)
-      (record { events = λ before. refl; tries = λ before. refl; tells = λ plan before. tt; quiet = tt })
-  by-kind (Happening.Wrote characters) =
-      other (Happening.Wrote characters)
-      (record { events = λ before. refl; tries = λ before. refl; tells = λ plan before. tt; quiet = tt })
-  by-kind (Happening.Comms state) =
-      other (Happening.Comms state)
-      (record { events = λ before. refl; tries = λ before. refl; tells = λ plan before. tt; quiet = tt })
-  by-kind (Happening.Control state) =
-      other (Happening.Control state)
-      (record { events = λ before. refl; tries = λ before. refl; tells = λ plan before. tt; quiet = tt })
-  by-kind (Happening.Spool active) =
-      other (Happening.Spool active)
-      (record { events = λ before. refl; tries = λ before. refl; tells = λ plan before. tt; quiet = tt })
-  by-kind (Happening.Set vid) =
-      other (Happening.Set vid)
-      (record { events = λ before. refl; tries = λ before. refl; tells = λ plan before. tt; quiet = tt })
   by-kind (Happening.Event ceid dataid) = happens ceid dataid
-  by-kind (Happening.Alarm alid set) =
-      other (Happening.Alarm alid set)
-      (record { events = λ before. refl; tries = λ before. refl; tells = λ plan before. tt; quiet = tt })
-  by-kind (Happening.Carried rcmd) =
-      other (Happening.Carried rcmd)
-      (record { events = λ before. refl; tries = λ before. refl; tells = λ plan before. tt; quiet = tt })
-  by-kind (Happening.Display tid text) =
-      other (Happening.Display tid text)
-      (record { events = λ before. refl; tries = λ before. refl; tells = λ plan before. tt; quiet = tt })
-  by-kind Happening.Refused =
-      other Happening.Refused
-      (record { events = λ before. refl; tries = λ before. refl; tells = λ plan before. tt; quiet = tt })
   by-kind (Happening.Storing number message) = stores number message
-  by-kind (Happening.Stored number) =
-      other (Happening.Stored number)
-      (record { events = λ before. refl; tries = λ before. refl; tells = λ plan before. tt; quiet = tt })
-  by-kind (Happening.Leaving number cause) =
-      other (Happening.Leaving number cause)
-      (record { events = λ before. refl; tries = λ before. refl; tells = λ plan before. tt; quiet = tt })
-  by-kind (Happening.Gone number) =
-      other (Happening.Gone number)
-      (record { events = λ before. refl; tries = λ before. refl; tells = λ plan before. tt; quiet = tt })
   by-kind (Happening.Try number system) = tries number system
-  by-kind (Happening.Duplicate header) =
-      other (Happening.Duplicate header)
-      (record { events = λ before. refl; tries = λ before. refl; tells = λ plan before. tt; quiet = tt })
-  by-kind (Happening.Unexpected header) =
-      other (Happening.Unexpected header)
-      (record { events = λ before. refl; tries = λ before. refl; tells = λ plan before. tt; quiet = tt })
-  by-kind (Happening.Foreign header) =
-      other (Happening.Foreign header)
-      (record { events = λ before. refl; tries = λ before. refl; tells = λ plan before. tt; quiet = tt })
-  by-kind (Happening.TooLongBlock header) =
-      other (Happening.TooLongBlock header)
-      (record { events = λ before. refl; tries = λ before. refl; tells = λ plan before. tt; quiet = tt })
-  by-kind (Happening.Crowded header) =
-      other (Happening.Crowded header)
-      (record { events = λ before. refl; tries = λ before. refl; tells = λ plan before. tt; quiet = tt })
-  by-kind (Happening.DroppedByT4 header) =
-      other (Happening.DroppedByT4 header)
-      (record { events = λ before. refl; tries = λ before. refl; tells = λ plan before. tt; quiet = tt })
-  by-kind (Happening.Failed title) =
-      other (Happening.Failed title)
-      (record { events = λ before. refl; tries = λ before. refl; tells = λ plan before. tt; quiet = tt })
-  by-kind (Happening.TimedOut title) =
-      other (Happening.TimedOut title)
-      (record { events = λ before. refl; tries = λ before. refl; tells = λ plan before. tt; quiet = tt })
-  by-kind (Happening.Stranger title) =
-      other (Happening.Stranger title)
-      (record { events = λ before. refl; tries = λ before. refl; tells = λ plan before. tt; quiet = tt })
-  by-kind (Happening.Dropped name) =
-      other (Happening.Dropped name)
-      (record { events = λ before. refl; tries = λ before. refl; tells = λ plan before. tt; quiet = tt })
-  by-kind (Happening.Denied name) =
-      other (Happening.Denied name)
-      (record { events = λ before. refl; tries = λ before. refl; tells = λ plan before. tt; quiet = tt })
-  by-kind (Happening.Discarded name) =
-      other (Happening.Discarded name)
-      (record { events = λ before. refl; tries = λ before. refl; tells = λ plan before. tt; quiet = tt })
-  by-kind (Happening.TooLong name) =
-      other (Happening.TooLong name)
-      (record { events = λ before. refl; tries = λ before. refl; tells = λ plan before. tt; quiet = tt })
-  by-kind (Happening.Full name) =
-      other (Happening.Full name)
-      (record { events = λ before. refl; tries = λ before. refl; tells = λ plan before. tt; quiet = tt })
-  by-kind (Happening.Recorded past) =
-      other (Happening.Recorded past)
-      (record { events = λ before. refl; tries = λ before. refl; tells = λ plan before. tt; quiet = tt })
-  by-kind Happening.StepEnded =
-      other Happening.StepEnded
-      (record { events = λ before. refl; tries = λ before. refl; tells = λ plan before. tt; quiet = tt })
+  by-kind what =
+      other what (record { events = λ before. refl; tries = λ before. refl; tells = λ plan before. tt; quiet = tt })
 
 -- ---- events of all starts
 
@@ -240,7 +146,7 @@ module _ (plan : EquipmentPlan) where
       joined : (one : ℕ × Spooled) → Has shelf.stands one ⊎ Has (option_to_list shelf.storing) one → IsTold notes one.1
       joined one (inl has) = are.stands one has
       joined one (inr has) = are.storing one (stored-is true shelf.storing one has)
-  quiet-on notes shelf (Leaves number why) quiet are =
+  quiet-on notes shelf (Leaves number why room_for) quiet are =
       record { stands = are.stands; storing = are.storing; told = are.told }
   quiet-on notes shelf (HasGone number) quiet are = record {
     stands = λ one has.

@@ -9,13 +9,15 @@ use Rattle.gl_base.specs.declared.side.Side.{Side}
 use Rattle.gl_base.specs.declared.side.Side.TheVariants.{Equipment, Host}
 use Rattle.message_end.specs.Doings.{Doing, IsLawful}
 use Rattle.message_end.specs.Doings.Doing.{Calls, Does, Gives, Says}
-use Rattle.message_end.specs.InStep.{IsInStep, RepliesAreOfSteps, ReplyInTheirSteps, asked_among, asked_behind, asked_in_step}
+use Rattle.message_end.specs.InStep.{IsInStep, IsNotedInStep, RepliesAreOfSteps, ReplyInTheirSteps, asked_among, asked_behind, asked_in_step}
 use Rattle.message_end.specs.Log.{log_of, noted_at, noted_of, with_note}
 use Rattle.message_end.specs.Moves.{KeepLaws, Kind, LinePlans, MayMove, Move, plan_at, run_at}
 use Rattle.message_end.specs.Moves.Kind.{Added, Changed, Did, Lost, Started}
 use Rattle.message_end.specs.Own.{Own, asked_after}
 use Rattle.message_end.specs.Own.Own.{DrewNumber, DroppedMessage, GaveBlock, HeardBlock, ReceivedMessage, SentMessage, WroteFrame}
 use Rattle.message_end.specs.Plan.{EndPlan}
+use Rattle.message_end.specs.Starts.{IsStartOf}
+use Rattle.message_end.specs.Starts.IsStartOf.{of_equipment, of_host, of_journal}
 use Rattle.line_order.specs.Characters.{Character}
 use Rattle.message_flow.specs.declared.message.Message.{Message}
 use Rattle.message_flow.specs.Message.{is_primary}
@@ -23,7 +25,6 @@ use Rattle.trace_log.specs.InStep.{noted_in_step}
 use Rattle.trace_log.specs.Log.{Entry, Happening}
 use Rattle.trace_log.specs.Log.Entry.{Ended, Noted, Slipped}
 use Rattle.trace_log.specs.Log.Happening.{Power}
-use Rattle.trace_log.specs.Names.{Spooled}
 use Rattle.message_end.proofs.NotedSteps.{plain-note}
 use Rattle.tool_law.specs.Laws.{DidOf}
 use Rattle.line_world.proofs.AtOnce.{replies-at-once}
@@ -70,7 +71,7 @@ module _ (plans : LinePlans) where
   -- what is no end's doing, a start, and what the world notes, are no replies
   fate-may : (side end : Side) (kind : Kind) (rest : List Move) → IsFate kind → MayAt side end rest kind
   fate-may side end (Did doing) rest fate = absurd fate
-  fate-may side end (Started found base) rest fate = absurd fate
+  fate-may side end (Started note base) rest fate = absurd fate
   fate-may Equipment Equipment Lost rest fate = tt
   fate-may Equipment Equipment (Changed place byte) rest fate = tt
   fate-may Equipment Equipment (Added byte) rest fate = tt
@@ -80,16 +81,18 @@ module _ (plans : LinePlans) where
   fate-may Equipment Host kind rest fate = tt
   fate-may Host Equipment kind rest fate = tt
 
-  start-may : (side end : Side) (found : List (ℕ × Spooled)) (base : ℕ) (rest : List Move)
-      → MayAt side end rest (Started found base)
-  start-may Equipment Equipment found base rest = tt
-  start-may Host Host found base rest = tt
-  start-may Equipment Host found base rest = tt
-  start-may Host Equipment found base rest = tt
+  start-may : (side end : Side) (note : Happening) (base : ℕ) (rest : List Move)
+      → MayAt side end rest (Started note base)
+  start-may Equipment Equipment note base rest = tt
+  start-may Host Host note base rest = tt
+  start-may Equipment Host note base rest = tt
+  start-may Host Equipment note base rest = tt
 
-  power-may : (side : Side) (rest : List Move) → MayAt side Equipment rest (Did (Says Power))
-  power-may Equipment rest = tt
-  power-may Host rest = tt
+  power-may : (side end : Side) (rest : List Move) → MayAt side end rest (Did (Says Power))
+  power-may Equipment Equipment rest = tt
+  power-may Host Host rest = tt
+  power-may Equipment Host rest = tt
+  power-may Host Equipment rest = tt
 
   module _ {S T : Type 0} (equipment : ℕ → List Doing → S → Type 0) (host : ℕ → List Doing → T → Type 0)
       (side : Side)
@@ -100,8 +103,8 @@ module _ (plans : LinePlans) where
       none = tt;
       back = λ end moment doing before replied. doing-back side end moment doing before replied;
       fate = λ end moment kind before fate kept. (fate-may side end kind before fate, kept);
-      start = λ end moment found base before kept. (start-may side end found base before, kept);
-      power = λ moment before kept. (power-may side before, kept);
+      start = λ end moment note base before kept. (start-may side end note base before, kept);
+      power = λ end moment before kept. (power-may side end before, kept);
     }
 
     replies-keep : (moves : List Move) → ComeInSteps equipment host plans moves → KeepsReplies side moves
@@ -167,6 +170,14 @@ module _ (plans : LinePlans) where
         replies = (is.noted notes, are.replies);
       }
 
+  -- with a start none asks
+  start-noted :
+      (side : Side) (note : Happening) (base : ℕ) (before : List Happening) → IsStartOf side note base
+      → (asked_among (noted_in_step (note ∷ before)) ≡ None) × IsNotedInStep side before note
+  start-noted _ _ _ before (of_equipment found base) = (refl, tt)
+  start-noted _ _ _ before (of_host base) = (refl, tt)
+  start-noted _ _ _ before (of_journal found base) = (refl, tt)
+
   -- what an end notes, and what the other one does
   of-equipment : (moment : ℕ) (said : Option Happening) (log : List Entry)
       → noted_by Equipment (with_note moment Equipment said log) ≡ with_noted said (noted_by Equipment log)
@@ -200,8 +211,9 @@ module _ (plans : LinePlans) where
       (sym (of-equipment moment (noted_of doing) (log_of rest)))
       (doing-noted Equipment (plan_at Equipment plans) (run_at Equipment plans rest).base
       (doings_at Equipment plans rest) (notes_at Equipment rest) doing law.0 may are)
-  at-move Equipment Equipment moment (Started found base) rest way law may are =
-      record { asked = refl; replies = (tt, are.replies) }
+  at-move Equipment Equipment moment (Started note base) rest way law may are =
+      let is = start-noted Equipment note base (notes_at Equipment rest) law.0 in
+      record { asked = is.0; replies = (is.1, are.replies) }
   at-move Equipment Equipment moment Lost rest way law may are = are
   at-move Equipment Equipment moment (Changed place byte) rest way law may are = are
   at-move Equipment Equipment moment (Added byte) rest way law may are = are
@@ -209,8 +221,9 @@ module _ (plans : LinePlans) where
       subst (AreNoted Host (doing ∷ doings_at Host plans rest)) (sym (of-host moment (noted_of doing) (log_of rest)))
       (doing-noted Host (plan_at Host plans) (run_at Host plans rest).base (doings_at Host plans rest)
       (notes_at Host rest) doing law.0 may are)
-  at-move Host Host moment (Started found base) rest way law may are =
-      record { asked = refl; replies = (tt, are.replies) }
+  at-move Host Host moment (Started note base) rest way law may are =
+      let is = start-noted Host note base (notes_at Host rest) law.0 in
+      record { asked = is.0; replies = (is.1, are.replies) }
   at-move Host Host moment Lost rest way law may are = are
   at-move Host Host moment (Changed place byte) rest way law may are = are
   at-move Host Host moment (Added byte) rest way law may are = are

@@ -40,7 +40,7 @@ no-round left x none = ap (λ (l : ℕ). events_left l x) (zero-of left none)
 -- ---- their events may happen
 
 abbrev May : Event → Type 0
-May = MayHappen ToolCommandFits HostCommandFits (Unit {0})
+May = MayHappen ToolCommandFits HostCommandFits (Unit {0}) ⊥
 
 abbrev IsByte : ℕ → Type 0
 IsByte byte = byte < 256

@@ -11,12 +11,13 @@ use Rattle.gl_base.specs.declared.side.Side.{Side}
 use Rattle.gl_base.specs.declared.side.Side.TheVariants.{Equipment, Host}
 use Rattle.message_end.specs.Doings.{Doing, own_of}
 use Rattle.message_end.specs.Doings.Doing.{Says}
+use Rattle.message_end.specs.Ends.IsOfWorld.{of_power}
 use Rattle.message_end.specs.Moves.{Kind, LinePlans, Move, plan_at, run_at}
 use Rattle.message_end.specs.Moves.Kind.{Added, Changed, Did, Lost, Started}
 use Rattle.spool_law.specs.Shelf.{change_of}
 use Rattle.spool_law.specs.Tries.{KeepsTries, MayTryAt, tries_in}
+use Rattle.trace_log.specs.Log.{Happening}
 use Rattle.trace_log.specs.Log.Happening.{Power}
-use Rattle.trace_log.specs.Names.{Spooled}
 use Rattle.line_world.specs.Safe.{plans_of}
 
 module _ (plans : LinePlans) where
@@ -35,21 +36,22 @@ module _ (plans : LinePlans) where
   -- what is no end's doing, a start, and what the world notes, are no tries
   fate-may : (side : Side) (kind : Kind) (rest : List Move) → IsFate kind → MayTryAt side plans rest kind
   fate-may Equipment (Did doing) rest fate = absurd fate
-  fate-may Equipment (Started found base) rest fate = absurd fate
+  fate-may Equipment (Started note base) rest fate = absurd fate
   fate-may Equipment Lost rest fate = tt
   fate-may Equipment (Changed place byte) rest fate = tt
   fate-may Equipment (Added byte) rest fate = tt
   fate-may Host kind rest fate = tt
 
-  start-may : (side : Side) (found : List (ℕ × Spooled)) (base : ℕ) (rest : List Move)
-      → MayTryAt side plans rest (Started found base)
-  start-may Equipment found base rest = tt
-  start-may Host found base rest = tt
+  start-may : (side : Side) (note : Happening) (base : ℕ) (rest : List Move)
+      → MayTryAt side plans rest (Started note base)
+  start-may Equipment note base rest = tt
+  start-may Host note base rest = tt
 
-  power-may : (rest : List Move) → MayTryAt Equipment plans rest (Did (Says Power))
-  power-may rest =
+  power-may : (side : Side) (rest : List Move) → MayTryAt side plans rest (Did (Says Power))
+  power-may Equipment rest =
       let doings = (run_at Equipment plans rest).doings in
-      may-say (own_of (plan_at Equipment plans) doings) (tries_in doings) (change_of Power) (world-free Power tt)
+      may-say (own_of (plan_at Equipment plans) doings) (tries_in doings) (change_of Power) (world-free Power of_power)
+  power-may Host rest = tt
 
   tries-kept :
       {T : Type 0} (equipment : ℕ → List Doing → EquipmentView → Type 0) (host : ℕ → List Doing → T → Type 0)
@@ -63,8 +65,8 @@ module _ (plans : LinePlans) where
     none = tt;
     back = doing-back;
     fate = λ side moment kind before fate kept. (fate-may side kind before fate, kept);
-    start = λ side moment found base before kept. (start-may side found base before, kept);
-    power = λ moment before kept. (power-may before, kept);
+    start = λ side moment note base before kept. (start-may side note base before, kept);
+    power = λ side moment before kept. (power-may side before, kept);
   }
 
 pub keeps-tries :

@@ -2,8 +2,8 @@
 use Rattle.std.specs.Prelude.{◌≡◌, ℕ, false}
 use Rattle.disk_base.specs.MemDisk.{DiskState, disk_health}
 use Rattle.gem_spool.specs.declared.spool.GemSpool.{GemSpool}
-use Rattle.spool_slots.specs.File.{file_in}
-use Rattle.spool_slots.specs.Format.{empty_file}
+use Rattle.spool_file.specs.File.{file_in}
+use Rattle.spool_file.specs.Format.{empty_file}
 
 -- it holds a new file, and no call of it is to fail
 pub record IsEmptySpool (slots : ℕ) (spool : GemSpool DiskState) : Type 0 where

@@ -22,7 +22,7 @@ use Rattle.line_world.specs.declared.counting.Counts.{Counts}
 pub record Makes {S T : Type 0}
     (piece : Piece S T) (now : World S T) (before after : Counts) (answer : WorldStep) : Type 0 where
   pub text : List ℕ
-  pub comes : Comes (λ (world : World S T). world) (λ now left. Unit {0}) piece now [] text answer
+  pub comes : Comes (λ (world : World S T). world) (λ side now left. Unit {0}) piece now [] text answer
   pub counted : IfWent answer (after ≡ with_lines before (lines_of text))
   pub powered : IsPowered answer
 
@@ -39,7 +39,8 @@ CarriesOn went.Went left whole now before after = Leads left after whole before
 CarriesOn went.Slip left whole now before after = Makes whole now before after went.Slip
 CarriesOn went.Turns left whole now before after = Makes whole now before after went.Turns
 CarriesOn went.NumbersSpent left whole now before after = Makes whole now before after went.NumbersSpent
-CarriesOn went.PowerLost left whole now before after = Makes whole now before after went.PowerLost
+CarriesOn went.JournalFull left whole now before after = Makes whole now before after went.JournalFull
+CarriesOn (went.PowerLost side) left whole now before after = Makes whole now before after (went.PowerLost side)
 CarriesOn went.NoMemory left whole now before after = Makes whole now before after went.NoMemory
 
 -- the line of the end was counted, or memory ran out
@@ -55,7 +56,8 @@ Counted piece (Err went.Went) = ⊥
 Counted piece (Err went.Slip) = piece.went ≡ went.Slip
 Counted piece (Err went.Turns) = piece.went ≡ went.Turns
 Counted piece (Err went.NumbersSpent) = piece.went ≡ went.NumbersSpent
-Counted piece (Err went.PowerLost) = ⊥
+Counted piece (Err went.JournalFull) = piece.went ≡ went.JournalFull
+Counted piece (Err (went.PowerLost side)) = ⊥
 Counted piece (Err went.NoMemory) = Unit {0}
 
 -- the summary of what was counted
@@ -84,7 +86,8 @@ end_made went.Slip = end.Slip
 end_made went.Turns = end.Turns
 end_made went.NumbersSpent = end.NumbersSpent
 end_made went.Went = end.NoMemory
-end_made went.PowerLost = end.NoMemory
+end_made went.JournalFull = end.JournalFull
+end_made (went.PowerLost side) = end.NoMemory
 end_made went.NoMemory = end.NoMemory
 
 -- the summary of the trace of so many rounds is written where they were carried out whole, and nothing else
@@ -96,6 +99,8 @@ MakesRounds out plans rounds end.Slip = (went_of plans (make_schedule rounds) �
 MakesRounds out plans rounds end.Turns = (went_of plans (make_schedule rounds) ≡ went.Turns) × WroteText out []
 MakesRounds out plans rounds end.NumbersSpent =
     (went_of plans (make_schedule rounds) ≡ went.NumbersSpent) × WroteText out []
+MakesRounds out plans rounds end.JournalFull =
+    (went_of plans (make_schedule rounds) ≡ went.JournalFull) × WroteText out []
 MakesRounds out plans rounds end.NoMemory = WroteText out []
 MakesRounds out plans rounds end.WriteFailed =
     (went_of plans (make_schedule rounds) ≡ went.Went)

@@ -1,5 +1,5 @@
 -- The run of a schedule over a tool and its host, and what it writes (this profile).
-use Rattle.std.specs.Prelude.{ℕ, List, [], ◌^◌}
+use Rattle.std.specs.Prelude.{ℕ, List, ◌^◌}
 use Rattle.end_pair.specs.Kept as kept
 use Rattle.end_pair.specs.Run as pair
 use Rattle.end_pair.specs.World.{Piece, World}
@@ -14,8 +14,8 @@ use Rattle.host_node.specs.Host as host
 use Rattle.line_end.specs.declared.plan.HostPlan.{HostPlan}
 use Rattle.line_schedule.specs.declared.schedule.Schedule.{Schedule}
 use Rattle.message_end.specs.Core.{Step}
-use Rattle.message_end.specs.Parts.{Node, started}
-use Rattle.spool_slots.specs.Format.{empty_file}
+use Rattle.message_end.specs.Parts.{Node, bare_started}
+use Rattle.spool_file.specs.Format.{empty_file}
 use Rattle.trace_log.specs.Log.{Entry, Happening}
 use Rattle.trace_log.specs.Text.{text_of}
 use Rattle.transact.specs.Numbers.{numbers_from}
@@ -33,7 +33,7 @@ equipment_start plans = equipment_states.started_on plans.equipment (empty_file 
 
 -- the host at its start: all system bytes are left
 abbrev pub host_start : HostPlan → Step HostView Happening
-host_start plan = started (host.end_plan plan) (host.first_own plan) [] (numbers_from 0 (2 ^ 32))
+host_start plan = bare_started (host.end_plan plan) (host.first_own plan) (numbers_from 0 (2 ^ 32))
 
 -- all of the run: as far as the schedule goes, or to the step that has ended it
 abbrev pub piece_of : Plans → Schedule → Piece EquipmentView HostView

@@ -58,7 +58,7 @@ abbrev pub HoldsSamples : Plans → List Entry → Type 0
 HoldsSamples plans log = AreSampledSoFar plans.equipment (timed_by side.Equipment log)
 
 -- each message leaves the spool in the step that has brought the cause of that; and right behind one that is gone as
--- overwritten another is put
+-- overwritten the message is put for which it left, or one more leaves for that
 pub record LeavesInSteps (plans : Plans) (log : List Entry) : Type 0 where
   pub caused : LeaveInTheirSteps (policy_of plans.equipment plans.slots) (noted_by side.Equipment log)
   pub overwritten : MakesRoomForPuts (noted_by side.Equipment log)

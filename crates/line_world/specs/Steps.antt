@@ -30,7 +30,7 @@ abbrev pub MayStepBehind : Happening → List (ℕ × Happening) → Type 0
 MayStepBehind StepEnded before = Unit {0}
 MayStepBehind (Wrote characters) before = AreAtAnEnd before
 MayStepBehind (EquipmentStarted found base) before = Unit {0}
-MayStepBehind HostStarted before = Unit {0}
+MayStepBehind (HostStarted journal) before = Unit {0}
 MayStepBehind _ before = ⊥
 
 -- a note of this moment comes behind one of the same moment, or a step may begin there

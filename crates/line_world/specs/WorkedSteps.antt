@@ -1,5 +1,5 @@
 -- Logs of a reply that goes behind the step of its primary: no plans make one of these safe.
-use Rattle.std.specs.Prelude.{◌≡◌, false, List, [], ◌∷◌}
+use Rattle.std.specs.Prelude.{◌≡◌, false, List, [], ◌∷◌, None}
 use Rattle.equipment_tables.specs.declared.plan.Plans.{Plans}
 use Rattle.gl_base.specs.declared.side.Side.TheVariants.{Equipment, Host}
 use Rattle.message_flow.specs.declared.message.Message.{Message}
@@ -12,7 +12,7 @@ use Rattle.line_world.specs.Safe.{IsSafe}
 abbrev pub asked_at_once : Message → List Entry
 asked_at_once asked =
     Noted 0 Equipment (Happening.Received asked) ∷ Noted 0 Host Happening.StepEnded
-    ∷ Noted 0 Host (Happening.Sent asked) ∷ Noted 0 Host Happening.HostStarted
+    ∷ Noted 0 Host (Happening.Sent asked) ∷ Noted 0 Host (Happening.HostStarted None)
     ∷ Noted 0 Equipment (Happening.EquipmentStarted [] 0) ∷ []
 
 -- it is replied to 10 ms later, with no end of a step between

@@ -7,7 +7,8 @@ use disk_base::MemDisk;
 use equipment_node::{LISTED_BYTES, LISTED_CALLS};
 use gem_spool::GemSpool;
 use gl_base::NoMemory;
-use spool_slots::{Raw, slot_place};
+use spool_file::slot_place;
+use spool_slots::Raw;
 use std::alloc::Global;
 
 /// An empty spool of so many slots, on a disk in memory that is made for it. Only memory may be wanting. The disk has

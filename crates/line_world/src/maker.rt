@@ -58,6 +58,7 @@ fn end_made(stop: WorldStep) -> RunEnd
         WorldStep::Slip => RunEnd::Slip,
         WorldStep::Turns => RunEnd::Turns,
         WorldStep::NumbersSpent => RunEnd::NumbersSpent,
-        WorldStep::Went | WorldStep::PowerLost | WorldStep::NoMemory => RunEnd::NoMemory,
+        WorldStep::JournalFull => RunEnd::JournalFull,
+        WorldStep::Went | WorldStep::PowerLost(_) | WorldStep::NoMemory => RunEnd::NoMemory,
     }
 }

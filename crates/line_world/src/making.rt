@@ -35,8 +35,8 @@ pub(crate) fn count_rounds<E: End<Command = ToolCommand>, H: End<Command = HostC
     requires host_store { H.holds host_store }
     requires equipment_opens { Opens (E.start equipment.now equipment_store) }
     requires host_opens { Opens (H.start host.now host_store) }
-    requires first { All (MayHappen E.takes H.takes E.loses) first_events }
-    requires each { (x : ℕ) → All (MayHappen E.takes H.takes E.loses) (round_of x) }
+    requires first { All (MayHappen E.takes H.takes E.loses H.loses) first_events }
+    requires each { (x : ℕ) → All (MayHappen E.takes H.takes E.loses H.loses) (round_of x) }
     ensures { Counted
         (piece_of E.machine H.machine
         (step_in (E.start equipment.now equipment_store)) (step_in (H.start host.now host_store))
@@ -111,8 +111,8 @@ impl<E: End<Command = ToolCommand>, H: End<Command = HostCommand>> Making<E, H> 
 
     // What comes first, and then so many rounds, the events of each of which are made as it begins.
     fn carry_rounds(&mut self, alloc: Global, rounds: u32) -> WorldStep
-        requires first { All (MayHappen E.takes H.takes E.loses) first_events }
-        requires each { (x : ℕ) → All (MayHappen E.takes H.takes E.loses) (round_of x) }
+        requires first { All (MayHappen E.takes H.takes E.loses H.loses) first_events }
+        requires each { (x : ℕ) → All (MayHappen E.takes H.takes E.loses H.loses) (round_of x) }
         ensures { (whole : Piece E.State H.State) (before : Counts)
             → Leads
             (after_events E.machine H.machine (make_events rounds) (seen E.means H.means self.old.world))
@@ -141,7 +141,7 @@ impl<E: End<Command = ToolCommand>, H: End<Command = HostCommand>> Making<E, H> 
     }
 
     fn carry_first(&mut self, alloc: Global) -> WorldStep
-        requires { All (MayHappen E.takes H.takes E.loses) first_events }
+        requires { All (MayHappen E.takes H.takes E.loses H.loses) first_events }
         ensures { (rest : List Event) (whole : Piece E.State H.State) (before : Counts)
             → Leads
             (after_events E.machine H.machine (first_events ++ rest) (seen E.means H.means self.old.world))
@@ -160,7 +160,7 @@ impl<E: End<Command = ToolCommand>, H: End<Command = HostCommand>> Making<E, H> 
 
     // The round with this number.
     fn carry_round(&mut self, alloc: Global, x: u32) -> WorldStep
-        requires { All (MayHappen E.takes H.takes E.loses) (round_of x) }
+        requires { All (MayHappen E.takes H.takes E.loses H.loses) (round_of x) }
         ensures { (rest : List Event) (whole : Piece E.State H.State) (before : Counts)
             → Leads
             (after_events E.machine H.machine (round_of x ++ rest) (seen E.means H.means self.old.world))
@@ -179,7 +179,7 @@ impl<E: End<Command = ToolCommand>, H: End<Command = HostCommand>> Making<E, H> 
 
     // These events, one after the other, as long as it goes on.
     fn carry_all(&mut self, alloc: Global, events: &[Event]) -> WorldStep
-        requires { All (MayHappen E.takes H.takes E.loses) events.now }
+        requires { All (MayHappen E.takes H.takes E.loses H.loses) events.now }
         ensures { (rest : List Event) (whole : Piece E.State H.State) (before : Counts)
             → Leads
             (after_events E.machine H.machine (events.now ++ rest) (seen E.means H.means self.old.world))
@@ -201,7 +201,7 @@ impl<E: End<Command = ToolCommand>, H: End<Command = HostCommand>> Making<E, H> 
 
     // An event, the lines of which are counted.
     fn carry(&mut self, alloc: Global, event: &Event) -> WorldStep
-        requires { MayHappen E.takes H.takes E.loses event.now }
+        requires { MayHappen E.takes H.takes E.loses H.loses event.now }
         ensures { Makes
             (after_event E.machine H.machine event.now (seen E.means H.means self.old.world))
             (seen E.means H.means self.new.world)

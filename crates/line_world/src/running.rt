@@ -1,6 +1,8 @@
 //! A run of a tool and its host. All laws of the layers below come together here: its log is safe.
 
+ghost use Rattle.std.specs.Prelude.{◌≢◌};
 ghost use Rattle.end_pair.specs.Run.{HandsBack};
+ghost use Rattle.end_pair.specs.declared.answers.RunEnd.TheVariants.{JournalFull};
 ghost use Rattle.equipment_tables.specs.Plan.{PlansFit};
 ghost use Rattle.gl_base.specs.Told.{sink_told};
 ghost use Rattle.line_schedule.specs.Schedule.{Fits};
@@ -9,7 +11,7 @@ ghost use Rattle.line_world.specs.Safe.{IsSafe};
 
 use crate::disk::empty_spool;
 use delivery::ends_deliver;
-use end_pair::{RunEnd, World, entries_are_of_courses, runs_are_moves};
+use end_pair::{RunEnd, World, entries_are_of_courses, never_full, runs_are_moves};
 use equipment_node::EquipmentEnd;
 use equipment_tables::{Plans, tables_are_looked_back_for};
 use gem_trace::{few_traces_run, what_runs_is_looked_back_for};
@@ -35,6 +37,8 @@ use tool_spool::{messages_leave_in_step, overwrites_for_puts, spool_is_kept};
 /// power was lost, and at which no cut takes the power. The calls count that make the file or take it up again, two and
 /// one a slot, and the five by which a start reserves system bytes. What is written are the lines up to that call.
 ///
+/// Neither end has a store of its own that it must put something into, so no run is ended by a full one.
+///
 /// The plans and the schedule must fit.
 pub fn run<W: Sink>(
     alloc: Global,
@@ -50,6 +54,7 @@ pub fn run<W: Sink>(
         (piece_of plans.now schedule.now).world
         result.0
         result.1 }
+    ensures store { result.0 ≢ JournalFull }
     ensures safe { IsSafe plans.now (log_of plans.now schedule.now) }
 {
     ends_deliver();
@@ -63,6 +68,7 @@ pub fn run<W: Sink>(
     few_traces_run();
     entries_are_of_courses::<EquipmentEnd, Host>();
     runs_are_moves::<EquipmentEnd, Host>();
+    never_full::<EquipmentEnd, Host>();
     let Ok(spool) = empty_spool(alloc, plans.slots) else {
         return (RunEnd::NoMemory, None);
     };
@@ -72,7 +78,7 @@ pub fn run<W: Sink>(
         spool,
         &plans.host,
         (),
-        schedule,
+        schedule.events.as_slice(),
         out,
     );
     (end, world)

@@ -1,5 +1,5 @@
 -- That the acts of a run are a course of its end, act by act.
-use Rattle.std.proofs.Common.{◌≡◌, refl, sym, ap, subst, ◌∙◌, zero, suc, ℕ, List, [], ◌∷◌, ◌++◌, append_assoc, append-nil, Option, Some, None}
+use Rattle.std.proofs.Common.{◌≡◌, refl, sym, ap, subst, ◌∙◌, zero, suc, ℕ, Bool, true, false, List, [], ◌∷◌, ◌++◌, append_assoc, append-nil, Option, Some, None}
 use Rattle.gl_base.specs.Events.{moment_after}
 use Rattle.gl_base.specs.declared.link.LinkIn.{LinkIn}
 use Rattle.gl_base.specs.declared.link.LinkIn.TheVariants as link
@@ -90,11 +90,11 @@ module _ {S C : Type 0} (machine : Machine S C) (start : Step S Happening) (side
       (now : ℕ) (input : Input C) (next : S) (notes : List Happening) (log : List Entry) (met : List (Meeting C))
       → AreNotesOf side log
       → course_of start machine (Acts input now ∷ met) ≡ Reached next (noted_behind notes (noted_by side log))
-      → (s : S) (stops : List (List Happening)) (asked : Asked) (written : List ℕ)
+      → (s : S) (stops : List (List Happening)) (asked : Asked) (fills : Bool) (written : List ℕ)
       → Behind log met
-      (made (step_at side now input s) stops asked
+      (made (step_at side now input s) stops asked fills
       (Goes (record { next = next; notes = notes; written = written })))
-  goes-so now input next notes log met own is s stops asked [] =
+  goes-so now input next notes log met own is s stops asked fills [] =
       subst (λ (l : List Entry). IsSo None next l (Acts input now ∷ met))
       (sym (one-log (entries_at side now (notes ++ [])) log))
       (on-way next (entries_at side now (notes ++ []) ++ log) (Acts input now ∷ met)
@@ -102,7 +102,7 @@ module _ {S C : Type 0} (machine : Machine S C) (start : Step S Happening) (side
       (at-noted now side (notes ++ []) log
       ∙ ap (λ (ns : List Happening). noted_behind ns (noted_by side log)) (append-nil notes))
       is)
-  goes-so now input next notes log met own is s stops asked (byte ∷ bytes) =
+  goes-so now input next notes log met own is s stops asked fills (byte ∷ bytes) =
       let written = Happening.Wrote (byte ∷ bytes) ∷ [] in
       subst (λ (l : List Entry). IsSo None next l (WritesDown (byte ∷ bytes) ∷ Acts input now ∷ met))
       (sym (one-log (entries_at side now (notes ++ written)) log))
@@ -113,22 +113,38 @@ module _ {S C : Type 0} (machine : Machine S C) (start : Step S Happening) (side
       (at-noted now side (notes ++ written) log ∙ behind-both notes written (noted_by side log))
       (ap (λ (c : Course S). with_meeting machine (WritesDown (byte ∷ bytes)) c) is))
 
-  -- its numbers are spent
+  -- it ends early
   spent-so :
       (now : ℕ) (input : Input C) (step : Step S Happening) (log : List Entry) (met : List (Meeting C))
       → AreNotesOf side log
       → course_of start machine (Acts input now ∷ met) ≡ Stopped (noted_behind step.notes (noted_by side log))
-      → (s : S) (stops : List (List Happening)) (asked : Asked)
-      → Behind log met (made (step_at side now input s) stops asked (Spent step))
-  spent-so now input step log met own is s stops asked =
-      let notes = ap (λ (c : Course S). notes_of c) is in
-      subst (λ (l : List Entry). IsSo (Some ending.NumbersSpent) step.next l (Acts input now ∷ met))
-      (sym (one-log (entries_at side now step.notes) log))
-      (record {
-        notes = at-own now side step.notes log own;
-        noted = at-noted now side step.notes log ∙ sym notes;
-        comes = is ∙ ap (λ (ns : List Happening). Stopped ns) (sym notes);
-      })
+      → (s : S) (stops : List (List Happening)) (asked : Asked) (fills : Bool)
+      → Behind log met (made (step_at side now input s) stops asked fills (Spent step))
+  spent-so now input step log met own is s stops asked fills = go fills
+    where
+      notes : notes_of (course_of start machine (Acts input now ∷ met))
+          ≡ noted_behind step.notes (noted_by side log)
+      notes = ap (λ (c : Course S). notes_of c) is
+
+      noted : noted_by side (entries_at side now step.notes ++ log)
+          ≡ notes_of (course_of start machine (Acts input now ∷ met))
+      noted = at-noted now side step.notes log ∙ sym notes
+
+      stopped : course_of start machine (Acts input now ∷ met)
+          ≡ Stopped (notes_of (course_of start machine (Acts input now ∷ met)))
+      stopped = is ∙ ap (λ (ns : List Happening). Stopped ns) (sym notes)
+
+      so : (ended : Ending) → IsSo (Some ended) step.next (entries_at side now step.notes ++ log) (Acts input now ∷ met)
+          → IsSo (Some ended) step.next ((entries_at side now step.notes ++ []) ++ log) (Acts input now ∷ met)
+      so ended is_so =
+          subst (λ (l : List Entry). IsSo (Some ended) step.next l (Acts input now ∷ met))
+          (sym (one-log (entries_at side now step.notes) log)) is_so
+
+      go : (fills : Bool) → Behind log met (made (step_at side now input s) stops asked fills (Spent step))
+      go true =
+          so ending.Full (record { notes = at-own now side step.notes log own; noted = noted; comes = stopped })
+      go false =
+          so ending.NumbersSpent (record { notes = at-own now side step.notes log own; noted = noted; comes = stopped })
 
   step-so :
       (now : ℕ) (input : Input C) (s : S) (log : List Entry) (met : List (Meeting C)) → IsSo None s log met
@@ -142,13 +158,15 @@ module _ {S C : Type 0} (machine : Machine S C) (start : Step S Happening) (side
           ∙ ap (λ (w : Went S Happening). went_on w (noted_by side log)) is
 
       go : (went : Went S Happening) → machine.act s input now ≡ went
-          → Behind log met (made (step_at side now input s) (machine.stops s input now) (machine.asks s input now) went)
+          → Behind log met
+          (made (step_at side now input s) (machine.stops s input now) (machine.asks s input now)
+          (machine.fills s input now) went)
       go (Goes step) is =
           goes-so now input step.next step.notes log met so.notes (acted (Goes step) is) s (machine.stops s input now)
-          (machine.asks s input now) step.written
+          (machine.asks s input now) (machine.fills s input now) step.written
       go (Spent step) is =
           spent-so now input step log met so.notes (acted (Spent step) is) s (machine.stops s input now)
-          (machine.asks s input now)
+          (machine.asks s input now) (machine.fills s input now)
 
   -- ---- lines of the script, and an answer
 

@@ -1,5 +1,5 @@
 -- That an end is given in a run what it takes: bytes of its link, and commands of its script.
-use Rattle.std.proofs.Common.{sym, subst, zero, suc, ℕ, List, [], ◌∷◌, ◌++◌, Option, Some, None}
+use Rattle.std.proofs.Common.{sym, subst, zero, suc, ℕ, Bool, List, [], ◌∷◌, ◌++◌, Option, Some, None}
 use Rattle.std.proofs.lemmas.List.Elements.{All-drop, All-head, All-tail, All-take}
 use Rattle.gl_base.specs.Events.{moment_after}
 use Rattle.gl_base.specs.declared.link.LinkIn.{LinkIn}
@@ -57,14 +57,15 @@ module _ {S C : Type 0} (machine : Machine S C) (due : S → Option ℕ) (told :
           (given-both takes (met_by (more first.end).acts) (met_by first.acts) (two first.end) one)
 
   made-given :
-      (now : ℕ) (input : Input C) (s : S) (stops : List (List Happening)) (asked : Asked) (went : Went S Happening)
-      → MayTake takes input → MayMeet (made (step_at side now input s) stops asked went)
-  made-given now input s stops asked (Spent step) may = (may, tt)
-  made-given now input s stops asked (Goes step) may = go step.written
+      (now : ℕ) (input : Input C) (s : S) (stops : List (List Happening)) (asked : Asked) (fills : Bool)
+      (went : Went S Happening)
+      → MayTake takes input → MayMeet (made (step_at side now input s) stops asked fills went)
+  made-given now input s stops asked fills (Spent step) may = (may, tt)
+  made-given now input s stops asked fills (Goes step) may = go step.written
     where
       go : (written : List ℕ)
           → MayMeet
-          (made (step_at side now input s) stops asked
+          (made (step_at side now input s) stops asked fills
           (Goes (record { next = step.next; notes = step.notes; written = written })))
       go [] = (may, tt)
       go (byte ∷ bytes) = (tt, (may, tt))
@@ -72,7 +73,8 @@ module _ {S C : Type 0} (machine : Machine S C) (due : S → Option ℕ) (told :
   step-given : (now : ℕ) (input : Input C) → MayTake takes input → (s : S)
       → MayMeet (stepped machine side now input s)
   step-given now input may s =
-      made-given now input s (machine.stops s input now) (machine.asks s input now) (machine.act s input now) may
+      made-given now input s (machine.stops s input now) (machine.asks s input now) (machine.fills s input now)
+      (machine.act s input now) may
 
   tell-given : (now : ℕ) (telling : Telling C) → MayTell takes telling → (s : S)
       → MayMeet (tells machine side now telling s)

@@ -8,7 +8,7 @@ use Rattle.message_end.specs.Course.Meeting.{Acts, Breaks, Fills, LosesPower, Re
 use Rattle.message_end.specs.Ends.{Loss, call_of}
 use Rattle.disk_base.specs.declared.cut.CutChoice.{CutChoice}
 use Rattle.spool_law.specs.Shelf.{Policy}
-use Rattle.spool_slots.specs.File.{SpoolFile}
+use Rattle.spool_file.specs.File.{SpoolFile}
 use Rattle.spool_works.specs.Found.{found_in}
 use Rattle.trace_log.specs.Log.{Happening}
 use Rattle.trace_log.specs.Names.{Spooled}
@@ -145,15 +145,9 @@ module _ (reports : ReportsAreOfTheirEvents) (spool : SpoolIsKeptFrom) (leaves :
   pub closing-keeps : (ended : Option Ending) (left : EquipmentView) → ComesTo ended left course
       → KeepsLaws plan file (with_closing ended (notes_of course))
   closing-keeps None left comes = course-keeps
-  closing-keeps (Some ending.Stopped) left comes = course-keeps
-  closing-keeps (Some ending.Turns) left comes = course-keeps
-  closing-keeps (Some ending.NumbersSpent) left comes = course-keeps
-  closing-keeps (Some ending.DiskFailed) left comes = course-keeps
-  closing-keeps (Some ending.LinkFailed) left comes = course-keeps
-  closing-keeps (Some ending.WriteFailed) left comes = course-keeps
-  closing-keeps (Some ending.NoMemory) left comes = course-keeps
   closing-keeps (Some ending.Closed) left comes =
       closed-keeps plan file (notes_of course) (course-any plan file met)
       (reports plan file fits may.sent met).done
       (used-so left course comes (room plan file fits some most may met).none)
       course-keeps
+  closing-keeps (Some other) left comes = course-keeps

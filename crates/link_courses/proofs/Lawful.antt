@@ -10,14 +10,15 @@ use Rattle.message_end.specs.Doings.Doing.{Calls, Does, Gives, Says}
 use Rattle.message_end.specs.Ends.{DoesStep, Input, IsMadeOf, KeepsLaw, Machine}
 use Rattle.message_end.specs.History.{noted_in}
 use Rattle.message_end.specs.InStep.{ReplyInTheirSteps}
-use Rattle.message_end.specs.Log.{noted_of, noted_of_own, start_of}
+use Rattle.message_end.specs.Log.{noted_of, noted_of_own}
 use Rattle.message_end.specs.Own.{Own}
 use Rattle.message_end.specs.Own.Own.{DrewNumber, DroppedMessage, GaveBlock, HeardBlock, ReceivedMessage, SentMessage, WroteFrame}
+use Rattle.message_end.specs.Ends.IsOfWorld.{of_wrote}
 use Rattle.message_end.specs.Plan.{EndPlan}
+use Rattle.message_end.specs.Starts.{IsStartOf}
 use Rattle.message_flow.specs.declared.message.Message.{Message}
 use Rattle.message_end.proofs.Growing.{behind-both}
 use Rattle.trace_log.specs.Log.{Happening}
-use Rattle.trace_log.specs.Names.{Spooled}
 use Rattle.end_run.specs.declared.ending.Ending.{Ending}
 use Rattle.end_run.specs.declared.ending.Ending.TheVariants as ending
 use Rattle.link_courses.specs.Courses.{with_closing}
@@ -73,33 +74,34 @@ by-note P (Some what) notes one rest older newest is = newest (same-rest what on
 
 module _ (plan : EndPlan) (Such : List Doing → Type 0)
     (older : (doing : Doing) (before : List Doing) → Such (doing ∷ before) → Such before) where
-  abbrev NotedBy : ℕ → List (ℕ × Spooled) → List Doing → List Happening
-  NotedBy base found doings = noted_behind (noted_in doings) (start_of plan.side found base ∷ [])
+  abbrev NotedBy : Happening → List Doing → List Happening
+  NotedBy start doings = noted_behind (noted_in doings) (start ∷ [])
 
   -- of doings with these notes some first ones have the first ones of them
   front-done :
-      (base : ℕ) (found : List (ℕ × Spooled)) (doings : List Doing) (later first : List Happening)
+      (base : ℕ) (start : Happening) → IsStartOf plan.side start base → (doings : List Doing)
+      (later first : List Happening)
       → AreLawful plan base doings → ReplyInTheirSteps plan doings → Such doings
-      → NotedBy base found doings ≡ later ++ first → AreDone plan Such first
-  front-done base found doings later [] lawful replies such same = tt
-  front-done base found doings [] (what ∷ first) lawful replies such same = record {
+      → NotedBy start doings ≡ later ++ first → AreDone plan Such first
+  front-done base start starts doings later [] lawful replies such same = tt
+  front-done base start starts doings [] (what ∷ first) lawful replies such same = record {
     base = base;
-    found = found;
+    start = start;
+    starts = starts;
     doings = doings;
     noted = sym same;
     lawful = lawful;
     replies = replies;
     such = such;
   }
-  front-done base found [] (one ∷ later) (what ∷ first) lawful replies such same =
-      absurd
-      (not-some later what first (same-rest (start_of plan.side found base) one [] (later ++ what ∷ first) same))
-  front-done base found (doing ∷ before) (one ∷ later) (what ∷ first) lawful replies such same =
-      by-note (AreDone plan Such (what ∷ first)) (noted_of doing) (NotedBy base found before) one
+  front-done base start starts [] (one ∷ later) (what ∷ first) lawful replies such same =
+      absurd (not-some later what first (same-rest start one [] (later ++ what ∷ first) same))
+  front-done base start starts (doing ∷ before) (one ∷ later) (what ∷ first) lawful replies such same =
+      by-note (AreDone plan Such (what ∷ first)) (noted_of doing) (NotedBy start before) one
       (later ++ what ∷ first)
-      (front-done base found before (one ∷ later) (what ∷ first) lawful.1 replies.1 (older doing before such))
-      (front-done base found before later (what ∷ first) lawful.1 replies.1 (older doing before such))
-      (sym (doing-last doing before (start_of plan.side found base ∷ [])) ∙ same)
+      (front-done base start starts before (one ∷ later) (what ∷ first) lawful.1 replies.1 (older doing before such))
+      (front-done base start starts before later (what ∷ first) lawful.1 replies.1 (older doing before such))
+      (sym (doing-last doing before (start ∷ [])) ∙ same)
 
 -- ---- a course of steps
 
@@ -108,9 +110,10 @@ module _ {S C : Type 0} (plan : EndPlan) (did : ℕ → List Doing → S → Typ
   -- what was noted is of doings that have made the end
   record IsRunSo (s : S) (notes : List Happening) : Type 0 where
     base : ℕ
-    found : List (ℕ × Spooled)
+    start : Happening
+    starts : IsStartOf plan.side start base
     doings : List Doing
-    noted : notes ≡ noted_behind (noted_in doings) (start_of plan.side found base ∷ [])
+    noted : notes ≡ noted_behind (noted_in doings) (start ∷ [])
     made : did base doings s
 
   -- of an end that goes on no more, these have made what it was last
@@ -132,10 +135,11 @@ module _ {S C : Type 0} (plan : EndPlan) (did : ℕ → List Doing → S → Typ
       → DoesStep plan did so.base so.doings input now went → IsCourseSo (went_on went notes)
   step-so s notes input now (Goes step) so does = record {
     base = so.base;
-    found = so.found;
+    start = so.start;
+    starts = so.starts;
     doings = does.done ++ so.doings;
     noted =
-        more-noted (start_of plan.side so.found so.base) so.doings (does.done ++ so.doings) notes step.notes
+        more-noted so.start so.doings (does.done ++ so.doings) notes step.notes
         does.notes so.noted;
     made = does.is;
   }
@@ -143,10 +147,11 @@ module _ {S C : Type 0} (plan : EndPlan) (did : ℕ → List Doing → S → Typ
     step.next,
     record {
       base = so.base;
-      found = so.found;
+      start = so.start;
+      starts = so.starts;
       doings = does.done ++ so.doings;
       noted =
-          more-noted (start_of plan.side so.found so.base) so.doings (does.done ++ so.doings) notes step.notes
+          more-noted so.start so.doings (does.done ++ so.doings) notes step.notes
           does.notes so.noted;
       made = does.is;
     },
@@ -156,12 +161,13 @@ module _ {S C : Type 0} (plan : EndPlan) (did : ℕ → List Doing → S → Typ
       → IsRunSo s (Happening.Wrote characters ∷ notes)
   wrote-so s notes characters so = record {
     base = so.base;
-    found = so.found;
+    start = so.start;
+    starts = so.starts;
     doings = Says (Happening.Wrote characters) ∷ so.doings;
     noted =
-        more-noted (start_of plan.side so.found so.base) so.doings (Says (Happening.Wrote characters) ∷ so.doings)
+        more-noted so.start so.doings (Says (Happening.Wrote characters) ∷ so.doings)
         notes (Happening.Wrote characters ∷ []) refl so.noted;
-    made = law.says so.base so.doings s (Happening.Wrote characters) so.made tt;
+    made = law.says so.base so.doings s (Happening.Wrote characters) so.made (of_wrote characters);
   }
 
   meeting-so : (meeting : Meeting C) (course : Course S) → IsGiven takes meeting → IsCourseSo course
@@ -178,7 +184,8 @@ module _ {S C : Type 0} (plan : EndPlan) (did : ℕ → List Doing → S → Typ
   course-so : (met : List (Meeting C)) → AreGiven takes met → IsCourseSo (course_of first machine met)
   course-so [] given = record {
     base = law.starts.base;
-    found = law.starts.found;
+    start = law.starts.note;
+    starts = law.starts.of_side;
     doings = [];
     noted = ap (λ (ns : List Happening). noted_behind ns []) law.starts.notes;
     made = law.starts.is;
@@ -208,7 +215,8 @@ module _ {S C : Type 0} (plan : EndPlan) (did : ℕ → List Doing → S → Typ
         plain : AreOfDoings plan Such notes
         plain = record {
           base = so.base;
-          found = so.found;
+          start = so.start;
+          starts = so.starts;
           doings = so.doings;
           noted = so.noted;
           lawful = made.lawful;
@@ -218,19 +226,13 @@ module _ {S C : Type 0} (plan : EndPlan) (did : ℕ → List Doing → S → Typ
 
         go : (ended : Option Ending) → AreOfDoings plan Such (with_closing ended notes)
         go None = plain
-        go (Some ending.Stopped) = plain
-        go (Some ending.Turns) = plain
-        go (Some ending.NumbersSpent) = plain
-        go (Some ending.DiskFailed) = plain
-        go (Some ending.LinkFailed) = plain
-        go (Some ending.WriteFailed) = plain
-        go (Some ending.NoMemory) = plain
         go (Some ending.Closed) = record {
           base = so.base;
-          found = so.found;
+          start = so.start;
+          starts = so.starts;
           doings = Says Happening.Closed ∷ so.doings;
           noted =
-              more-noted (start_of plan.side so.found so.base) so.doings (Says Happening.Closed ∷ so.doings) notes
+              more-noted so.start so.doings (Says Happening.Closed ∷ so.doings) notes
               (Happening.Closed ∷ []) refl so.noted;
           lawful = (
             (
@@ -242,6 +244,7 @@ module _ {S C : Type 0} (plan : EndPlan) (did : ℕ → List Doing → S → Typ
           replies = (tt, made.replies);
           such = closed so.doings (such so.base so.doings s so.made);
         }
+        go (Some other) = plain
 
     -- of all that was noted, those that came first
     pub first-done :
@@ -250,5 +253,5 @@ module _ {S C : Type 0} (plan : EndPlan) (did : ℕ → List Doing → S → Typ
     first-done ended met later noted given is =
         let so = any-so (course_of first machine met) (course-so met given) in
         let all = closing-so ended so.0 (notes_of (course_of first machine met)) so.1 in
-        front-done plan Such older all.base all.found all.doings later noted all.lawful all.replies all.such
+        front-done plan Such older all.base all.start all.starts all.doings later noted all.lawful all.replies all.such
         (sym all.noted ∙ is)

@@ -18,7 +18,7 @@ use Rattle.end_run.specs.Pieces.{Piece}
 use Rattle.end_run.specs.Run.{started_run}
 use Rattle.end_run.specs.Scenes.{Scene}
 use Rattle.end_run.specs.declared.ending.Ending.{Ending}
-use Rattle.end_run.specs.declared.ending.Ending.TheVariants.{Closed, DiskFailed, LinkFailed, NoMemory, NumbersSpent, Stopped, Turns, WriteFailed}
+use Rattle.end_run.specs.declared.ending.Ending.TheVariants.{Closed, DiskFailed, Full, LinkFailed, NoMemory, NumbersSpent, Stopped, Turns, WriteFailed}
 use Rattle.link_courses.specs.Courses.{AreNotesOf, IsCourse, met_by, with_closing}
 use Rattle.link_courses.specs.Noting.{AreThere, HasNoted, HasPart, IsFirstOf, RunsNoteCourses}
 use Rattle.link_courses.proofs.Coming.{are-courses}
@@ -139,6 +139,15 @@ module _ {S C : Type 0} (machine : Machine S C) (start : Step S Happening) (side
     due = does.0;
     written = does.1.wrote.received;
   }
+  by-ending Full over does = record {
+    answers = over.answers;
+    to_come = over.to_come;
+    log = log_of (run over.answers).acts;
+    notes = (course over.answers).notes;
+    there = (course over.answers).noted;
+    due = does.0;
+    written = does.1.wrote.received;
+  }
   by-ending DiskFailed over does =
       let acts = (run over.answers).acts in
       let more : acts
@@ -218,6 +227,7 @@ there-first Stopped whole noted there = record { later = []; is = sym there }
 there-first Closed whole noted there = record { later = []; is = sym there }
 there-first Turns whole noted there = record { later = []; is = sym there }
 there-first NumbersSpent whole noted there = record { later = []; is = sym there }
+there-first Full whole noted there = record { later = []; is = sym there }
 there-first DiskFailed whole noted there = there
 there-first LinkFailed whole noted there = there
 there-first WriteFailed whole noted there = there

@@ -2,18 +2,18 @@
 use Rattle.std.proofs.Common.{◌≡◌, ℕ, zero, suc, ◌+◌, ◌^◌, ◌<◌, ◌≤◌, ◌==◌, nat_lt, Bool, true, false, if◌then◌else◌}
 use Rattle.std.proofs.Common.{List, [], ◌∷◌, length, Some, None, refl, ap, arith, All}
 use Rattle.std.proofs.lemmas.Bool.Decides.{nat_tests}
-use Rattle.spool_slots.specs.Area.{first_of, messages_below, put_by_number, put_if}
-use Rattle.spool_slots.specs.File.{area_break, end_of, file_in, floor_in, slot_message, slot_stands, slots_in}
-use Rattle.spool_slots.specs.File.{spool_break}
-use Rattle.spool_slots.specs.Front.{front_break, front_in, slots_break, slots_of}
-use Rattle.spool_slots.specs.Run.{IsRunFrom}
-use Rattle.spool_slots.specs.Slot.{Message, slot_in, slot_place}
-use Rattle.spool_slots.proofs.Areas.{Each}
-use Rattle.spool_slots.proofs.Contents.{IsHeld, each_held}
-use Rattle.spool_slots.proofs.Evens.{chain_run}
-use Rattle.spool_slots.proofs.Firsts.{both_none}
-use Rattle.spool_slots.proofs.Fronts.{IsFront, floor_is, front_of}
-use Rattle.spool_slots.proofs.Gapless.{sound_kept}
+use Rattle.spool_file.specs.Area.{first_of, messages_below, put_by_number, put_if}
+use Rattle.spool_file.specs.File.{area_break, end_of, file_in, floor_in, slot_message, slot_stands, slots_in}
+use Rattle.spool_file.specs.File.{spool_break}
+use Rattle.spool_file.specs.Front.{front_break, front_in, slots_break, slots_of}
+use Rattle.spool_file.specs.Run.{IsRunFrom}
+use Rattle.spool_file.specs.Slot.{Message, slot_in, slot_place}
+use Rattle.spool_file.proofs.Areas.{Each}
+use Rattle.spool_file.proofs.Contents.{IsHeld, each_held}
+use Rattle.spool_file.proofs.Evens.{chain_run}
+use Rattle.spool_file.proofs.Firsts.{both_none}
+use Rattle.spool_file.proofs.Fronts.{IsFront, floor_is, front_of}
+use Rattle.spool_file.proofs.Gapless.{sound_kept}
 use Rattle.spool_works.specs.Found.{first_in}
 use Rattle.equipment_node.proofs.FoundBytes.{found-sent}
 use Rattle.tool_spool.specs.SpoolKept.{MayHold}

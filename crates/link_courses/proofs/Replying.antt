@@ -1,22 +1,22 @@
 -- That replies go in the steps of their primaries, by the notes as by the doings.
 use Rattle.std.proofs.Common.{◌≡◌, refl, sym, ap, subst, ◌∙◌, ℕ, List, [], ◌∷◌, Option}
 use Rattle.gl_base.specs.declared.side.Side.{Side}
-use Rattle.gl_base.specs.declared.side.Side.TheVariants.{Equipment, Host}
 use Rattle.message_end.specs.Course.{noted_behind}
 use Rattle.message_end.specs.Doings.{AreLawful, Doing, IsLawful}
 use Rattle.message_end.specs.Doings.Doing.{Calls, Does, Gives, Says}
 use Rattle.message_end.specs.History.{noted_in}
 use Rattle.message_end.specs.InStep.{IsInStep, RepliesAreOfSteps, ReplyInTheirSteps, asked_among, asked_behind, asked_in_step}
-use Rattle.message_end.specs.Log.{noted_of, start_of}
+use Rattle.message_end.specs.Log.{noted_of}
 use Rattle.message_end.specs.Own.{Own, asked_after}
 use Rattle.message_end.specs.Own.Own.{DrewNumber, DroppedMessage, GaveBlock, HeardBlock, ReceivedMessage, SentMessage, WroteFrame}
 use Rattle.message_end.specs.Plan.{EndPlan}
+use Rattle.message_end.specs.Starts.{IsStartOf}
+use Rattle.message_end.specs.Starts.IsStartOf.{of_equipment, of_host, of_journal}
 use Rattle.message_end.proofs.NotedSteps.{plain-note}
 use Rattle.message_flow.specs.declared.message.Message.{Message}
 use Rattle.message_flow.specs.Message.{is_primary}
 use Rattle.trace_log.specs.InStep.{noted_in_step}
 use Rattle.trace_log.specs.Log.{Happening}
-use Rattle.trace_log.specs.Names.{Spooled}
 use Rattle.link_courses.specs.Lawful.{AreDone}
 use Rattle.link_courses.proofs.Lawful.{doing-last, with_note}
 
@@ -69,21 +69,22 @@ doing-noted side plan base doings notes (Says what) law may are =
       replies = (is.noted notes, are.replies);
     }
 
-start-noted : (side : Side) (found : List (ℕ × Spooled)) (base : ℕ)
-    → AreNoted side [] (start_of side found base ∷ [])
-start-noted Equipment found base = record { asked = refl; replies = (tt, tt) }
-start-noted Host found base = record { asked = refl; replies = (tt, tt) }
+start-noted :
+    (side : Side) (start : Happening) (base : ℕ) → IsStartOf side start base → AreNoted side [] (start ∷ [])
+start-noted _ _ _ (of_equipment found base) = record { asked = refl; replies = (tt, tt) }
+start-noted _ _ _ (of_host base) = record { asked = refl; replies = (tt, tt) }
+start-noted _ _ _ (of_journal found base) = record { asked = refl; replies = (tt, tt) }
 
-module _ (plan : EndPlan) (base : ℕ) (found : List (ℕ × Spooled)) where
+module _ (plan : EndPlan) (base : ℕ) (start : Happening) (starts : IsStartOf plan.side start base) where
   all-noted :
       (doings : List Doing) → AreLawful plan base doings → ReplyInTheirSteps plan doings
-      → AreNoted plan.side doings (noted_behind (noted_in doings) (start_of plan.side found base ∷ []))
-  all-noted [] lawful replies = start-noted plan.side found base
+      → AreNoted plan.side doings (noted_behind (noted_in doings) (start ∷ []))
+  all-noted [] lawful replies = start-noted plan.side start base starts
   all-noted (doing ∷ before) lawful replies =
       subst (AreNoted plan.side (doing ∷ before))
-      (sym (doing-last doing before (start_of plan.side found base ∷ [])))
+      (sym (doing-last doing before (start ∷ [])))
       (doing-noted plan.side plan base before
-      (noted_behind (noted_in before) (start_of plan.side found base ∷ [])) doing lawful.0 replies.0
+      (noted_behind (noted_in before) (start ∷ [])) doing lawful.0 replies.0
       (all-noted before lawful.1 replies.1))
 
 pub replies-noted : (plan : EndPlan) (Such : List Doing → Type 0) (notes : List Happening)
@@ -91,4 +92,4 @@ pub replies-noted : (plan : EndPlan) (Such : List Doing → Type 0) (notes : Lis
 replies-noted plan Such [] done = tt
 replies-noted plan Such (what ∷ before) done =
     subst (RepliesAreOfSteps plan.side) (sym done.noted)
-    (all-noted plan done.base done.found done.doings done.lawful done.replies).replies
+    (all-noted plan done.base done.start done.starts done.doings done.lawful done.replies).replies

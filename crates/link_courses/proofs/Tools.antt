@@ -23,7 +23,7 @@ use Rattle.equipment_tables.specs.declared.plan.EquipmentPlan.{EquipmentPlan}
 use Rattle.equipment_tables.specs.declared.plan.Plans.{Plans}
 use Rattle.equipment_tables.specs.Plan.{EquipmentPlanFits}
 use Rattle.spool_show.specs.Told.{DiskTold}
-use Rattle.spool_slots.specs.File.{SpoolFile, file_in, spool_break}
+use Rattle.spool_file.specs.File.{SpoolFile, file_in, spool_break}
 use Rattle.tool_law.specs.Laws.{DidOf, EquipmentKeepsItsLaw}
 use Rattle.tool_law.specs.Tried.{AreTried}
 use Rattle.tool_reports.specs.Laws.{ReportsAreOfTheirEvents}

@@ -52,9 +52,10 @@ abbrev pub with_closing : Option Ending → List Happening → List Happening
 with_closing (Some ending.Closed) notes = Happening.Closed ∷ notes
 with_closing _ notes = notes
 
--- the course has come to the state that the run leaves, or to its end where the numbers were spent
+-- the course has come to the state that the run leaves, or to its end where a step ended early
 abbrev pub ComesTo : {S : Type 0} → Option Ending → S → Course S → Type 0
 ComesTo (Some ending.NumbersSpent) left course = course ≡ Stopped (notes_of course)
+ComesTo (Some ending.Full) left course = course ≡ Stopped (notes_of course)
 ComesTo _ left course = course ≡ Reached left (notes_of course)
 
 -- all that the end of this run notes is what its course from the start brings, as long as nothing stops it

@@ -16,7 +16,7 @@ use Rattle.trace_log.specs.declared.commands.ToolCommand.{ToolCommand}
 use Rattle.equipment_tables.specs.declared.plan.EquipmentPlan.{EquipmentPlan}
 use Rattle.equipment_tables.specs.declared.plan.Plans.{Plans}
 use Rattle.spool_show.specs.Told.{DiskTold}
-use Rattle.spool_slots.specs.File.{SpoolFile, file_in}
+use Rattle.spool_file.specs.File.{SpoolFile, file_in}
 use Rattle.spool_works.specs.Found.{found_in}
 use Rattle.tool_law.specs.Tried.{AreTried}
 use Rattle.tool_reports.specs.Reported.{Reported}

@@ -6,10 +6,9 @@ use Rattle.message_end.specs.Course.{noted_behind}
 use Rattle.message_end.specs.Doings.{AreLawful, Doing}
 use Rattle.message_end.specs.History.{noted_in}
 use Rattle.message_end.specs.InStep.{RepliesAreOfSteps, ReplyInTheirSteps}
-use Rattle.message_end.specs.Log.{start_of}
 use Rattle.message_end.specs.Plan.{EndPlan}
+use Rattle.message_end.specs.Starts.{IsStartOf}
 use Rattle.trace_log.specs.Log.{Happening}
-use Rattle.trace_log.specs.Names.{Spooled}
 
 -- a character that a link gives is a byte
 abbrev pub GivesByte : LinkIn → Type 0
@@ -26,9 +25,10 @@ GiveBytes (answer ∷ answers) = GivesByte answer × GiveBytes answers
 -- law of an end, reply in the steps of their primaries, and are such
 pub record AreOfDoings (plan : EndPlan) (Such : List Doing → Type 0) (notes : List Happening) : Type 0 where
   pub base : ℕ
-  pub found : List (ℕ × Spooled)
+  pub start : Happening
+  pub starts : IsStartOf plan.side start base
   pub doings : List Doing
-  pub noted : notes ≡ noted_behind (noted_in doings) (start_of plan.side found base ∷ [])
+  pub noted : notes ≡ noted_behind (noted_in doings) (start ∷ [])
   pub lawful : AreLawful plan base doings
   pub replies : ReplyInTheirSteps plan doings
   pub such : Such doings

@@ -17,7 +17,7 @@ use Rattle.end_run.specs.Run.{started_run}
 use Rattle.end_run.specs.Scenes.{Scene}
 use Rattle.end_run.specs.Script.{ScriptLine, Telling}
 use Rattle.end_run.specs.declared.ending.Ending.{Ending}
-use Rattle.end_run.specs.declared.ending.Ending.TheVariants.{Closed, DiskFailed, LinkFailed, NoMemory, NumbersSpent, Stopped, Turns, WriteFailed}
+use Rattle.end_run.specs.declared.ending.Ending.TheVariants.{Closed, DiskFailed, Full, LinkFailed, NoMemory, NumbersSpent, Stopped, Turns, WriteFailed}
 use Rattle.link_courses.specs.Courses.{AreNotesOf, met_by, with_closing}
 
 -- of these notes, those came first
@@ -31,6 +31,7 @@ AreThere Stopped whole noted = noted ≡ whole
 AreThere Closed whole noted = noted ≡ whole
 AreThere Turns whole noted = noted ≡ whole
 AreThere NumbersSpent whole noted = noted ≡ whole
+AreThere Full whole noted = noted ≡ whole
 AreThere DiskFailed whole noted = IsFirstOf whole noted
 AreThere LinkFailed whole noted = IsFirstOf whole noted
 AreThere WriteFailed whole noted = IsFirstOf whole noted
@@ -50,6 +51,7 @@ AreWritten Stopped before after text = after ≡ with_bytes before text
 AreWritten Closed before after text = after ≡ with_bytes before text
 AreWritten Turns before after text = after ≡ with_bytes before text
 AreWritten NumbersSpent before after text = after ≡ with_bytes before text
+AreWritten Full before after text = after ≡ with_bytes before text
 AreWritten DiskFailed before after text = HasPart before after text
 AreWritten LinkFailed before after text = after ≡ with_bytes before text
 AreWritten WriteFailed before after text = HasPart before after text
@@ -61,6 +63,7 @@ EndsAsDue Stopped due = due ≡ Some Stopped
 EndsAsDue Closed due = due ≡ Some Closed
 EndsAsDue Turns due = due ≡ Some Turns
 EndsAsDue NumbersSpent due = due ≡ Some NumbersSpent
+EndsAsDue Full due = due ≡ Some Full
 EndsAsDue _ due = Unit {0}
 
 -- a run that has ended so: what it has noted, by its own answers, those that were to come where the link tells them

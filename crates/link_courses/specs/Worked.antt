@@ -1,6 +1,6 @@
 -- Runs over a link in examples that can be followed by hand: one that is a course of its end, and others that are none.
 -- Entries have the newest first.
-use Rattle.std.specs.Prelude.{ℕ, ◌+◌, List, [], ◌∷◌, Some, None}
+use Rattle.std.specs.Prelude.{ℕ, false, ◌+◌, List, [], ◌∷◌, Some, None}
 use Rattle.gl_base.specs.declared.side.Side.TheVariants as side
 use Rattle.line_end.specs.State.{LineState}
 use Rattle.message_end.specs.Core.{Step, Went}
@@ -23,13 +23,14 @@ counts s input now =
     Goes (record { next = s + 1; notes = Happening.Set s ∷ Happening.StepEnded ∷ []; written = [] })
 
 abbrev pub begins : Step ℕ Happening
-begins = record { next = 0; notes = Happening.HostStarted ∷ []; written = [] }
+begins = record { next = 0; notes = Happening.HostStarted None ∷ []; written = [] }
 
 abbrev pub counter : LineState → Machine ℕ (Unit {0})
 counter line = record {
   act = counts;
   restart = λ s now. Goes begins;
   line = λ s. line;
+  fills = λ s input now. false;
   stops = λ s input now. [];
   start_stops = [];
   asks = λ s input now. none_asked;
@@ -56,7 +57,7 @@ abbrev pub closed_at : ℕ → List Entry
 closed_at now = Noted now side.Host Happening.Closed ∷ []
 
 abbrev pub opens : List CountsAct → List CountsAct
-opens acts = Writes (Noted 0 side.Host Happening.HostStarted ∷ []) ∷ Connects ∷ acts
+opens acts = Writes (Noted 0 side.Host (Happening.HostStarted None) ∷ []) ∷ Connects ∷ acts
 
 abbrev pub goes_on : ℕ → List CountsAct → Piece ℕ (Unit {0})
 goes_on end acts = record { end = end; acts = opens acts; ended = None }

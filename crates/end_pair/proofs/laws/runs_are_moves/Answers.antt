@@ -17,7 +17,7 @@ returns g c =
     let h = g.H.End in
     λ equipment equipment_store host host_store plans events fits_e fits_h holds_e holds_h opens_e opens_h line may
     bytes.
-    log-is (e.did equipment) (h.did host) e.takes h.takes e.loses (step_in (e.start equipment equipment_store))
+    log-is (e.did equipment) (h.did host) e.takes h.takes e.loses h.loses (step_in (e.start equipment equipment_store))
     (step_in (h.start host host_store)) e.machine h.machine plans
     (subst
     (λ (w : Went e.State Happening). KeepsLaw (plan_at Equipment plans) (e.did equipment) e.takes w e.machine)

@@ -14,6 +14,6 @@ invariant-events g l =
     let e = g.E.End in
     let h = g.H.End in
     IsAt (piece_of e.machine h.machine (step_in (e.start l.equipment l.fn.equipment_store))
-    (step_in (h.start l.host l.fn.host_store)) l.schedule.events)
-    (after_events e.machine h.machine (drop l.event-index l.schedule.events) (seen e.means h.means l.world))
+    (step_in (h.start l.host l.fn.host_store)) l.events)
+    (after_events e.machine h.machine (drop l.event-index l.events) (seen e.means h.means l.world))
     l.lines l.page.bytes.items (sink_told g.W.Sink l.fn.out l.out)

@@ -64,8 +64,8 @@ returns-in-Err-DiskFailed-clause-lines g c = λ choice.
     stop_step e.machine c.args.side c.args.now (e.planned c.args.end.now) c.args.is_cut choice (input_of c.args.input)
     (e.means c.args.end.now) c.args.ways.now c.notes_are_lines.ensures none (e.anew c.step.new.self) c.step.new.out lost
     c.args.lines.now c.put_stopped.new.lines c.put_stopped.result
-    (subst (λ (notes : List Note). Puts (stopped_for c.args.is_cut) (flat_map (note_line c.args.now c.args.side) notes)
-    c.args.lines.now c.put_stopped.new.lines c.put_stopped.result)
+    (subst (λ (notes : List Note).
+    Puts (stopped_for c.args.side c.args.is_cut) (flat_map (note_line c.args.now c.args.side) notes) c.args.lines.now c.put_stopped.new.lines c.put_stopped.result)
     c.as_slice-in-Err-DiskFailed.ensures c.put_stopped.ensures.puts)
 
 pub returns-in-Err-DiskFailed-clause-end : goal.returns-in-Err-DiskFailed-clause-end
@@ -103,7 +103,7 @@ returns-in-Err-DiskFailed-clause-ways g c = λ choice.
 pub returns-in-Err-DiskFailed-clause-planned : goal.returns-in-Err-DiskFailed-clause-planned
 returns-in-Err-DiskFailed-clause-planned g c = λ choice.
     let e = g.E.End in
-    stop_never c.args.is_cut
+    stop_never c.args.side c.args.is_cut
     (e.planned c.step.new.self
     ≡ e.planned c.args.end.now - (stepped e.machine c.args.side c.args.now (e.planned c.args.end.now) c.args.is_cut
     choice (input_of c.args.input) (e.means c.args.end.now) c.args.ways.now).calls)
@@ -111,5 +111,5 @@ returns-in-Err-DiskFailed-clause-planned g c = λ choice.
 
 pub returns-in-Err-DiskFailed-clause-going : goal.returns-in-Err-DiskFailed-clause-going
 returns-in-Err-DiskFailed-clause-going g c =
-    stop_never c.args.is_cut (g.E.End.stopped c.step.new.self ≡ false) _ c.args.lines.now c.put_stopped.new.lines
-    c.put_stopped.result c.put_stopped.ensures.puts
+    stop_never c.args.side c.args.is_cut (g.E.End.stopped c.step.new.self ≡ false) _ c.args.lines.now
+    c.put_stopped.new.lines c.put_stopped.result c.put_stopped.ensures.puts

@@ -1,6 +1,6 @@
--- A step by how it ends: numbers spent, a fault of its disk, no memory, or its lines handed on.
+-- A step by how it ends: numbers spent, a full store, a fault of its disk, no memory, or its lines handed on.
 
-use Rattle.std.proofs.Common.{Err, List, None, Some, refl, subst, sym}
+use Rattle.std.proofs.Common.{Err, false, true, List, None, Some, refl, subst, sym}
 use Rattle.std.specs.List.{flat_map}
 use Rattle.gl_base.specs.Told.{sink_told}
 use Rattle.message_end.specs.Ends.{Leaves, Uses, input_of}
@@ -28,7 +28,8 @@ returns-in-Err-NumbersSpent-clause-runs g c =
     let now = c.args.now in
     let spent =
     subst
-    (λ (why : Stop). Leaves (e.machine.stops s input now) (e.machine.act s input now)
+    (λ (why : Stop). Leaves (e.machine.stops s input now) (e.machine.fills s input now)
+    (e.machine.act s input now)
     (e.means c.step.new.self) c.step.new.out (Err why))
     c.in-Err-NumbersSpent.field-0-is (c.in-Err-NumbersSpent.ensures.step known)
     in
@@ -40,14 +41,46 @@ returns-in-Err-NumbersSpent-clause-runs g c =
       Some (record { at = step_at c.args.side now input s; out = c.step.new.out; why = stop.NumbersSpent }),
       left,
       spent_runs c.notes_are_lines.ensures (step_at c.args.side now input s) (e.machine.stops s input now)
-          (e.machine.asks s input now) (e.machine.act s input now) c.step.new.out
+          (e.machine.asks s input now) (e.machine.fills s input now) (e.machine.act s input now) c.step.new.out
           (scene g.L.Link g.W.Sink c.args.link.now c.args.out.now s (e.room c.args.end.now) None) refl
-          (e.means c.step.new.self) (e.room c.step.new.self) _ _ spent
+          (e.means c.step.new.self) (e.room c.step.new.self) _ _ false spent.1 spent.0
           c.end_with.result
           (subst
           (λ (ns : List Note). EndsWith (sink_told g.W.Sink c.args.out.now c.end_with.new.out)
           (flat_map (note_line now c.args.side) ns) ending.NumbersSpent c.end_with.result)
           c.as_slice.ensures c.end_with.ensures),
+    )
+
+pub returns-in-Err-Full-clause-runs : goal.returns-in-Err-Full-clause-runs
+returns-in-Err-Full-clause-runs g c =
+    λ known.
+    let e = g.E.LinkedEnd in
+    let s = e.means c.args.end.now in
+    let input = input_of c.args.input in
+    let now = c.args.now in
+    let spent =
+    subst
+    (λ (why : Stop). Leaves (e.machine.stops s input now) (e.machine.fills s input now)
+    (e.machine.act s input now)
+    (e.means c.step.new.self) c.step.new.out (Err why))
+    c.in-Err-Full.field-0-is (c.in-Err-Full.ensures.step known)
+    in
+    let left =
+    subst
+    (λ (why : Stop). Stays e.known e.left s input now c.step.new.out c.step.new.self (Err why))
+    c.in-Err-Full.field-0-is (c.in-Err-Full.ensures.end known)
+    in (
+      Some (record { at = step_at c.args.side now input s; out = c.step.new.out; why = stop.Full }),
+      left,
+      spent_runs c.notes_are_lines.ensures (step_at c.args.side now input s) (e.machine.stops s input now)
+          (e.machine.asks s input now) (e.machine.fills s input now) (e.machine.act s input now) c.step.new.out
+          (scene g.L.Link g.W.Sink c.args.link.now c.args.out.now s (e.room c.args.end.now) None) refl
+          (e.means c.step.new.self) (e.room c.step.new.self) _ _ true spent.1 spent.0
+          c.end_with-in-Err-Full.result
+          (subst
+          (λ (ns : List Note). EndsWith (sink_told g.W.Sink c.args.out.now c.end_with-in-Err-Full.new.out)
+          (flat_map (note_line now c.args.side) ns) ending.Full c.end_with-in-Err-Full.result)
+          c.as_slice-in-Err-Full.ensures c.end_with-in-Err-Full.ensures),
     )
 
 pub returns-in-Err-DiskFailed-clause-runs : goal.returns-in-Err-DiskFailed-clause-runs
@@ -59,7 +92,8 @@ returns-in-Err-DiskFailed-clause-runs g c =
     let now = c.args.now in
     let halt =
     subst
-    (λ (why : Stop). Leaves (e.machine.stops s input now) (e.machine.act s input now)
+    (λ (why : Stop). Leaves (e.machine.stops s input now) (e.machine.fills s input now)
+    (e.machine.act s input now)
     (e.means c.step.new.self) c.step.new.out (Err why))
     c.in-Err-DiskFailed.field-0-is (c.in-Err-DiskFailed.ensures.step known)
     in
@@ -83,7 +117,7 @@ returns-in-Err-DiskFailed-clause-runs g c =
       Some (record { at = step_at c.args.side now input s; out = c.step.new.out; why = stop.DiskFailed }),
       left,
       stopped_runs c.notes_are_lines.ensures (step_at c.args.side now input s) (e.machine.stops s input now)
-          (e.machine.asks s input now) (e.machine.act s input now) c.step.new.out a refl (e.means c.step.new.self)
+          (e.machine.asks s input now) (e.machine.fills s input now) (e.machine.act s input now) c.step.new.out a refl (e.means c.step.new.self)
           (e.room c.step.new.self) _ _ halt short
           (subst
           (λ (ns : List Note). PutsAsCan (sink_told g.W.Sink c.args.out.now c.put_stopped.new.out)
@@ -106,7 +140,7 @@ returns-in-Err-NoMemory-clause-runs g c =
       Some (record { at = step_at c.args.side now input s; out = c.step.new.out; why = stop.NoMemory }),
       left,
       lacks_memory c.notes_are_lines.ensures (step_at c.args.side now input s) (e.machine.stops s input now)
-          (e.machine.asks s input now) (e.machine.act s input now) c.step.new.out
+          (e.machine.asks s input now) (e.machine.fills s input now) (e.machine.act s input now) c.step.new.out
           (scene g.L.Link g.W.Sink c.args.link.now c.args.out.now s (e.room c.args.end.now) None) refl
           (e.means c.step.new.self) (e.room c.step.new.self),
     )
@@ -119,7 +153,7 @@ returns-clause-runs g c =
     let input = input_of c.args.input in
     let now = c.args.now in
     gone_comes c.notes_are_lines.ensures (step_at c.args.side now input s) (e.machine.stops s input now)
-    (e.machine.asks s input now) (e.machine.act s input now) c.step.new.out e.known e.left c.step.new.self
+    (e.machine.asks s input now) (e.machine.fills s input now) (e.machine.act s input now) c.step.new.out e.known e.left c.step.new.self
     (scene g.L.Link g.W.Sink c.args.link.now c.args.out.now s (e.room c.args.end.now) None)
     (scene g.L.Link g.W.Sink c.hand_on.new.link c.hand_on.new.out (e.means c.step.new.self) (e.room c.step.new.self))
     (e.means c.step.new.self) (e.room c.step.new.self) refl (c.in-Ok.ensures.step known) (c.in-Ok.ensures.room known)
@@ -139,6 +173,20 @@ returns-in-Err-NumbersSpent-clause-counts g c =
     (counted g.L.Link g.W.Sink c.args.link.now c.end_with.new.out disk) (Some c.end_with.result) (refl, refl, same)
     (ends_count (g.L.Link.health c.args.link.now).faults disk (sink_told g.W.Sink c.args.out.now c.end_with.new.out) _
     ending.NumbersSpent c.end_with.result c.end_with.ensures)
+
+pub returns-in-Err-Full-clause-counts : goal.returns-in-Err-Full-clause-counts
+returns-in-Err-Full-clause-counts g c =
+    let e = g.E.LinkedEnd in
+    let disk = e.device c.step.new.self in
+    let same =
+    subst (λ (why : Stop). StepCounts (e.device c.args.end.now) disk (Err why)) c.in-Err-Full.field-0-is
+    c.in-Err-Full.ensures.device
+    in
+    counts_behind (counted g.L.Link g.W.Sink c.args.link.now c.args.out.now (e.device c.args.end.now))
+    (counted g.L.Link g.W.Sink c.args.link.now c.args.out.now disk)
+    (counted g.L.Link g.W.Sink c.args.link.now c.end_with-in-Err-Full.new.out disk) (Some c.end_with-in-Err-Full.result) (refl, refl, same)
+    (ends_count (g.L.Link.health c.args.link.now).faults disk (sink_told g.W.Sink c.args.out.now c.end_with-in-Err-Full.new.out) _
+    ending.Full c.end_with-in-Err-Full.result c.end_with-in-Err-Full.ensures)
 
 pub returns-in-Err-DiskFailed-clause-counts : goal.returns-in-Err-DiskFailed-clause-counts
 returns-in-Err-DiskFailed-clause-counts g c =

@@ -13,8 +13,8 @@ use Rattle.trace_log.specs.Log.{Happening}
 use Rattle.line_world.specs.Run.{EquipmentView, equipment_start, host_start, trace_text}
 use Rattle.line_world.specs.Safe.{HostDid, plans_of}
 use Rattle.line_world.proofs.Claims.{LawsHold, safe}
-use Rattle.line_world.proofs.Disks.{blank-empty, blank_spool, first-is, hands-over, holds_empty, opens_empty, runs-over}
-use Rattle.line_world.proofs.Events.{all-happen, all-have}
+use Rattle.line_world.proofs.Disks.{blank-empty, blank_spool, ends-by-no-store, first-is, hands-over, holds_empty, opens_empty, runs-over}
+use Rattle.line_world.proofs.Events.{all-happen, all-have, slice-happens}
 use Rattle.line_world.proofs.running.run.Goals as goal
 
 -- the laws hold whether there was memory for a disk or not
@@ -54,11 +54,13 @@ returns-in_default g c =
     record {
       text = part_before [] (trace_text plans c.args.schedule.now) wrote_nothing;
       world = tt;
+      store = λ is. cc;
       safe = safe plans c.args.schedule.now fit laws moved courses;
     }
 
 pub run-end-requires-clause-events : goal.run-end-requires-clause-events
-run-end-requires-clause-events g c = all-happen c.args.schedule.now.events c.requires.schedule.events
+run-end-requires-clause-events g c =
+    slice-happens c.as_slice.result.now c.args.schedule.now.events c.as_slice.ensures c.requires.schedule.events
 
 pub run-end-requires-clause-equipment_store : goal.run-end-requires-clause-equipment_store
 run-end-requires-clause-equipment_store g c = holds_empty c.args.plans.now.slots c.in-Ok.spool c.in-Ok.ensures
@@ -98,9 +100,18 @@ returns g c =
     c.entries_are_of_courses.ensures equipment.machine host.host_machine (equipment_start plans)
     (host_start plans.host) events
     in
+    let text =
+    runs-over plans c.args.schedule.now _ is _ c.as_slice.ensures _ c.run-end.result.0 c.run-end.ensures.text
+    in
     record {
-      text = runs-over plans c.args.schedule.now _ is _ c.run-end.result.0 c.run-end.ensures.text;
+      text = text;
       world =
-          hands-over plans c.args.schedule.now _ is _ c.run-end.result.0 c.run-end.result.1 c.run-end.ensures.world;
+          hands-over plans c.args.schedule.now _ is _ c.as_slice.ensures _ c.run-end.result.0 c.run-end.result.1
+          c.run-end.ensures.world;
+      store =
+          ends-by-no-store plans c.args.schedule.now _ c.run-end.result.0
+          (c.never_full.ensures equipment.machine host.host_machine (equipment_start plans) (host_start plans.host)
+          events (λ s input now. refl) (λ s input now. refl))
+          text;
       safe = safe plans c.args.schedule.now fit laws moved courses;
     }

@@ -1,15 +1,18 @@
--- The line is emptied and the equipment restarted, which is `again` of the definition.
+-- The line is emptied and the end restarted, which is `again` of the definition.
 
-use Rattle.std.proofs.Common.{false, subst}
-use Rattle.end_pair.specs.Kept.{Comes, IsDark, seen}
+use Rattle.std.proofs.Common.{◌≡◌, None, subst, sym}
+use Rattle.gl_base.specs.declared.side.Side.{Side}
+use Rattle.gl_base.specs.declared.side.Side.TheVariants.{Equipment, Host}
+use Rattle.line_way.specs.Kept.{without_power}
+use Rattle.end_pair.specs.Kept.{IsDark, Makes, kept, seen}
 use Rattle.end_pair.specs.World.{World, again}
-use Rattle.end_pair.proofs.Anew.{again_comes}
+use Rattle.end_pair.proofs.Anew.{equipment_again, host_again}
 use Rattle.end_pair.proofs.world.World.start_anew.Goals as goal
 
-pub returns : goal.returns
-returns g c =
-    let e = g.E.End in
-    let h = g.H.End in
+pub returns-in-Equipment : goal.returns-in-Equipment
+returns-in-Equipment g c =
+    let e = kept g.E.End.means g.E.End.anew g.E.End.machine in
+    let h = kept g.H.End.means g.H.End.anew g.H.End.machine in
     let was : World _ _ = record {
       equipment = c.self.inside.equipment;
       host = c.self.inside.host;
@@ -17,30 +20,72 @@ returns g c =
       moment = c.self.inside.moment;
       steps = c.self.inside.steps;
       cut = c.self.inside.cut;
-      left = e.planned c.self.inside.equipment;
-      host_left = h.planned c.self.inside.host;
+      left = g.E.End.planned c.self.inside.equipment;
+      host_left = g.H.End.planned c.self.inside.host;
       is_cut = c.self.inside.is_cut;
       choice = c.self.inside.choice;
     }
     in
-    let now : World _ _ = record {
+    let now : World _ _ =
+    record was {
       equipment = c.restart_end.new.end;
-      host = c.self.inside.host;
       ways = c.empty_line.new.ways;
-      moment = c.self.inside.moment;
-      steps = c.self.inside.steps;
-      cut = c.self.inside.cut;
-      left = e.planned c.restart_end.new.end;
-      host_left = h.planned c.self.inside.host;
-      is_cut = false;
-      choice = c.self.inside.choice;
+      left = g.E.End.planned c.restart_end.new.end;
+      is_cut = None;
     }
     in
     subst (λ (w : World _ _).
-    (left : World e.State h.State) → IsDark e.anew e.machine.restart h.means w left
-    → Comes (seen e.means h.means) (IsDark e.anew e.machine.restart h.means) (again e.machine h.machine left) now
-    c.args.lines.now c.restart_end.new.lines c.restart_end.result) c.self.view_is
+    (left : World g.E.End.State g.H.End.State) → IsDark e h c.args.side w left
+    → Makes e h (again e.machine h.machine c.args.side left) now c.args.lines.now c.restart_end.new.lines
+    c.restart_end.result) c.self.view_is
+    (subst (λ (side : Side).
+    (left : World g.E.End.State g.H.End.State) → IsDark e h side was left
+    → Makes e h (again e.machine h.machine side left) now c.args.lines.now c.restart_end.new.lines
+    c.restart_end.result) (sym c.in-Equipment.is)
     (λ left dark.
-    again_comes e.means h.means e.anew e.machine h.machine was left dark c.restart_end.new.end c.empty_line.new.ways
-    (e.planned c.restart_end.new.end) c.empty_line.ensures.ways c.args.lines.now c.restart_end.new.lines
-    c.restart_end.result c.restart_end.ensures.lines c.restart_end.ensures.end c.restart_end.ensures.planned)
+    equipment_again e h was left c.empty_line.new.ways (g.E.End.planned c.restart_end.new.end) c.restart_end.new.end
+    c.args.lines.now c.restart_end.new.lines c.restart_end.result dark
+    (subst (λ (side : Side). c.empty_line.new.ways ≡ without_power side c.self.inside.ways) c.in-Equipment.is
+    c.empty_line.ensures.ways)
+    c.restart_end.ensures.lines c.restart_end.ensures.end c.restart_end.ensures.planned))
+
+pub returns-in-Host : goal.returns-in-Host
+returns-in-Host g c =
+    let e = kept g.E.End.means g.E.End.anew g.E.End.machine in
+    let h = kept g.H.End.means g.H.End.anew g.H.End.machine in
+    let was : World _ _ = record {
+      equipment = c.self.inside.equipment;
+      host = c.self.inside.host;
+      ways = c.self.inside.ways;
+      moment = c.self.inside.moment;
+      steps = c.self.inside.steps;
+      cut = c.self.inside.cut;
+      left = g.E.End.planned c.self.inside.equipment;
+      host_left = g.H.End.planned c.self.inside.host;
+      is_cut = c.self.inside.is_cut;
+      choice = c.self.inside.choice;
+    }
+    in
+    let now : World _ _ =
+    record was {
+      host = c.restart_end-in-Host.new.end;
+      ways = c.empty_line.new.ways;
+      host_left = g.H.End.planned c.restart_end-in-Host.new.end;
+      is_cut = None;
+    }
+    in
+    subst (λ (w : World _ _).
+    (left : World g.E.End.State g.H.End.State) → IsDark e h c.args.side w left
+    → Makes e h (again e.machine h.machine c.args.side left) now c.args.lines.now c.restart_end-in-Host.new.lines
+    c.restart_end-in-Host.result) c.self.view_is
+    (subst (λ (side : Side).
+    (left : World g.E.End.State g.H.End.State) → IsDark e h side was left
+    → Makes e h (again e.machine h.machine side left) now c.args.lines.now c.restart_end-in-Host.new.lines
+    c.restart_end-in-Host.result) (sym c.in-Host.is)
+    (λ left dark.
+    host_again e h was left c.empty_line.new.ways (g.H.End.planned c.restart_end-in-Host.new.end)
+    c.restart_end-in-Host.new.end c.args.lines.now c.restart_end-in-Host.new.lines c.restart_end-in-Host.result dark
+    (subst (λ (side : Side). c.empty_line.new.ways ≡ without_power side c.self.inside.ways) c.in-Host.is
+    c.empty_line.ensures.ways)
+    c.restart_end-in-Host.ensures.lines c.restart_end-in-Host.ensures.end
+    c.restart_end-in-Host.ensures.planned))

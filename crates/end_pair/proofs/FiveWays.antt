@@ -1,5 +1,5 @@
 -- How a run goes, and what the newest entry of its log is.
-use Rattle.std.proofs.Common.{◌≡◌, ◌≢◌, ◌⊎◌, zero, suc, ℕ, ◌==◌, Bool, true, false, List, [], ◌∷◌, ◌++◌, Option, Some, None, inl, inr, if◌then◌else◌, refl}
+use Rattle.std.proofs.Common.{◌≡◌, ◌≢◌, ◌⊎◌, zero, suc, ℕ, ◌==◌, Bool, true, false, List, [], ◌∷◌, ◌++◌, Option, Some, None, inl, inr, if◌then◌else◌, refl, sym, ◌∙◌}
 use Rattle.disk_base.specs.declared.cut.CutChoice.{CutChoice}
 use Rattle.gl_base.specs.declared.side.Side.{Side}
 use Rattle.gl_base.specs.declared.side.Side.TheVariants.{Equipment, Host}
@@ -18,10 +18,10 @@ use Rattle.trace_log.specs.declared.commands.HostCommand.{HostCommand}
 use Rattle.trace_log.specs.declared.commands.ToolCommand.{ToolCommand}
 use Rattle.end_pair.specs.declared.answers.WorldStep.{WorldStep}
 use Rattle.end_pair.specs.declared.answers.WorldStep.TheVariants as answer
-use Rattle.end_pair.specs.Laws.{AreNotes, AreNotesBefore, EndsOneWay, IsEnd, IsSlip, OnNewest}
+use Rattle.end_pair.specs.Laws.{AreNotes, AreNotesBefore, EndsOneWay, IsEnd, IsSlip, NeverFills, OnNewest}
 use Rattle.end_pair.specs.Run.{closing, piece_of, whole_log}
-use Rattle.end_pair.specs.Steps.{Stepped, entries_of, made, made_by, slipped, slips, stepped, stopped_for}
-use Rattle.end_pair.specs.World.{Piece, World, after_event, after_events, again, and_more, and_on, armed, at_start, begun, both_stepped, darkened, ended_by, equipment_stepped, given, given_next, given_times, happened, host_stepped, later, met, most_steps, settled, settled_times, started_anew, still, turned_out, way_to, with_equipment, with_host, without}
+use Rattle.end_pair.specs.Steps.{Stepped, entries_of, made, made_by, slipped, slips, spent_for, stepped, stopped_for}
+use Rattle.end_pair.specs.World.{EndAt, Piece, World, after_event, after_events, again, and_more, and_on, armed, at_start, begun, both_stepped, darkened, ended_by, equipment_makes, equipment_stepped, given, given_next, given_times, happened, host_makes, host_stepped, is_to_lose, later, met, most_steps, restart_of, settled, settled_times, started_anew, still, timed, turned_out, way_to, with_equipment, with_host, without}
 use Rattle.end_pair.proofs.Powered.{IsPoweredPiece, run-powered}
 
 -- ---- entries
@@ -71,50 +71,79 @@ slipped-behind [] two newest before notes = absurd newest
 slipped-behind (entry ∷ one) two newest before notes =
     record { newest = newest; before = both-notes one two before notes }
 
--- without a slip, and with steps and numbers left, a run is carried out
+-- without a slip, and with steps, numbers and room left, a run is carried out
 pub carried-out :
     (went : WorldStep) (log : List Entry) → EndsOneWay went log → (OnNewest IsSlip log → ⊥) → went ≢ answer.Turns
-    → went ≢ answer.NumbersSpent → went ≡ answer.Went
-carried-out went log ends no_slip no_turns no_numbers = go ends.how
+    → went ≢ answer.NumbersSpent → went ≢ answer.JournalFull → went ≡ answer.Went
+carried-out went log ends no_slip no_turns no_numbers no_full = go ends.how
   where
     go : (went ≡ answer.Went)
-        ⊎ ((went ≡ answer.Slip) ⊎ ((went ≡ answer.Turns) ⊎ (went ≡ answer.NumbersSpent)))
+        ⊎ ((went ≡ answer.Slip)
+        ⊎ ((went ≡ answer.Turns) ⊎ ((went ≡ answer.NumbersSpent) ⊎ (went ≡ answer.JournalFull))))
         → went ≡ answer.Went
     go (inl whole) = whole
     go (inr (inl slip)) = absurd (no_slip (ends.slip.0 slip))
     go (inr (inr (inl turns))) = absurd (no_turns turns)
-    go (inr (inr (inr spent))) = absurd (no_numbers spent)
+    go (inr (inr (inr (inl spent)))) = absurd (no_numbers spent)
+    go (inr (inr (inr (inr full)))) = absurd (no_full full)
 
 -- ---- a step
 
--- what some of a run has noted, by how it went, and what it can't have come to
-pub record IsSo (entries : List Entry) (went : WorldStep) : Type 0 where
+-- what some of a run has noted, by how it went, and what it can't have come to; where no end has a store of its own, it
+-- isn't full
+pub record IsSo (NoStore : Type 0) (entries : List Entry) (went : WorldStep) : Type 0 where
   pub slip : went ≡ answer.Slip → HasSlipped entries
   pub notes : went ≢ answer.Slip → AreNotes entries
   pub no_fault : went ≢ answer.NoMemory
+  pub not_full : NoStore → went ≢ answer.JournalFull
 
 -- only notes are made
-only-notes : (entries : List Entry) (how : WorldStep) → AreNotes entries → how ≢ answer.Slip → how ≢ answer.NoMemory
-    → IsSo entries how
-only-notes entries how are no_slip no_memory =
-    record { slip = λ is. absurd (no_slip is); notes = λ other. are; no_fault = no_memory }
+only-notes :
+    (NoStore : Type 0) (entries : List Entry) (how : WorldStep) → AreNotes entries → how ≢ answer.Slip
+    → how ≢ answer.NoMemory → (NoStore → how ≢ answer.JournalFull) → IsSo NoStore entries how
+only-notes NoStore entries how are no_slip no_memory not_full = record {
+  slip = λ is. absurd (no_slip is);
+  notes = λ other. are;
+  no_fault = no_memory;
+  not_full = not_full;
+}
 
-abbrev pub IsSoStep : {S : Type 0} → Stepped S → Type 0
-IsSoStep step = IsSo step.entries step.went
+-- of all ends where it is so of one
+of-both : (NoStore Both : Type 0) (entries : List Entry) (went : WorldStep) → (Both → NoStore)
+    → IsSo NoStore entries went → IsSo Both entries went
+of-both NoStore Both entries went one so = record {
+  slip = so.slip;
+  notes = so.notes;
+  no_fault = so.no_fault;
+  not_full = λ both. so.not_full (one both);
+}
 
 module _ {S C : Type 0} (machine : Machine S C) (side : Side) (now call : ℕ) (is_cut : Bool) (choice : CutChoice)
     (input : Input C) (s : S) (ways : Ways) where
+  abbrev IsSoStep : Stepped S → Type 0
+  IsSoStep step = IsSo (NeverFills machine) step.entries step.went
+
+  spent-so : (entries : List Entry) → AreNotes entries → (fills : Bool) → machine.fills s input now ≡ fills
+      → IsSo (NeverFills machine) entries (spent_for fills)
+  spent-so entries are false is =
+      only-notes (NeverFills machine) entries answer.NumbersSpent are (λ is. cc) (λ is. cc) (λ never is. cc)
+  spent-so entries are true is =
+      only-notes (NeverFills machine) entries answer.JournalFull are (λ is. cc) (λ is. cc)
+      (λ never full. let not = sym is ∙ never s input now in absurd (cc))
+
   made-so : (went : Went S Happening) → IsSoStep (made machine side now input s ways went)
   made-so (Goes step) =
-      only-notes (entries_of side now (step.notes ++ wrote step.written)) answer.Went
-      (noted-notes now side (step.notes ++ wrote step.written) [] tt) (λ is. cc) (λ is. cc)
+      only-notes (NeverFills machine) (entries_of side now (step.notes ++ wrote step.written)) answer.Went
+      (noted-notes now side (step.notes ++ wrote step.written) [] tt) (λ is. cc) (λ is. cc) (λ never is. cc)
   made-so (Spent step) =
-      only-notes (entries_of side now step.notes) answer.NumbersSpent (noted-notes now side step.notes [] tt)
-      (λ is. cc) (λ is. cc)
+      spent-so (entries_of side now step.notes) (noted-notes now side step.notes [] tt) (machine.fills s input now) refl
 
-  stopped-so : (entries : List Entry) → AreNotes entries → (is_cut : Bool) → IsSo entries (stopped_for is_cut)
-  stopped-so entries are true = only-notes entries answer.PowerLost are (λ is. cc) (λ is. cc)
-  stopped-so entries are false = only-notes entries answer.Turns are (λ is. cc) (λ is. cc)
+  stopped-so : (entries : List Entry) → AreNotes entries → (is_cut : Bool)
+      → IsSo (NeverFills machine) entries (stopped_for side is_cut)
+  stopped-so entries are true =
+      only-notes (NeverFills machine) entries (answer.PowerLost side) are (λ is. cc) (λ is. cc) (λ never is. cc)
+  stopped-so entries are false =
+      only-notes (NeverFills machine) entries answer.Turns are (λ is. cc) (λ is. cc) (λ never is. cc)
 
   by-so : (lost : Option (Loss S)) → IsSoStep (made_by machine side now call is_cut choice input s ways lost)
   by-so None = made-so (machine.act s input now)
@@ -131,23 +160,32 @@ module _ {S C : Type 0} (machine : Machine S C) (side : Side) (now call : ℕ) (
         slip = λ is. record { newest = tt; before = tt };
         notes = λ other. absurd (other refl);
         no_fault = λ is. cc;
+        not_full = λ never is. cc;
       }
       go false = by-so (call_of call (machine.losses s input now))
 
 -- ---- a run
 
-abbrev pub IsSoPiece : {S T : Type 0} → Piece S T → Type 0
-IsSoPiece piece = IsSo piece.entries piece.went
-
 module _ {S T : Type 0} (e : Machine S ToolCommand) (h : Machine T HostCommand) where
+  abbrev NoStores : Type 0
+  NoStores = NeverFills e × NeverFills h
+
+  abbrev pub IsSoPiece : Piece S T → Type 0
+  IsSoPiece piece = IsSo NoStores piece.entries piece.went
+
+  notes-only : (entries : List Entry) (how : WorldStep) → AreNotes entries → how ≢ answer.Slip → how ≢ answer.NoMemory
+      → how ≢ answer.JournalFull → IsSo NoStores entries how
+  notes-only entries how are no_slip no_memory not_full =
+      only-notes NoStores entries how are no_slip no_memory (λ none. not_full)
+
   abbrev Keeps : (World S T → Piece S T) → Type 0
   Keeps more = (world : World S T) → IsSoPiece (more world)
 
   still-keeps : Keeps still
-  still-keeps world = only-notes [] answer.Went tt (λ is. cc) (λ is. cc)
+  still-keeps world = notes-only [] answer.Went tt (λ is. cc) (λ is. cc) (λ is. cc)
 
   out-keeps : Keeps turned_out
-  out-keeps world = only-notes [] answer.Turns tt (λ is. cc) (λ is. cc)
+  out-keeps world = notes-only [] answer.Turns tt (λ is. cc) (λ is. cc) (λ is. cc)
 
   -- behind what has noted no slip
   kept-on : (piece : Piece S T) (more : World S T → Piece S T) → AreNotes piece.entries → Keeps more
@@ -158,6 +196,7 @@ module _ {S T : Type 0} (e : Machine S ToolCommand) (h : Machine T HostCommand) 
         slipped-behind (more piece.world).entries piece.entries slip.newest slip.before notes;
     notes = λ other. both-notes (more piece.world).entries piece.entries (next.notes other) notes;
     no_fault = next.no_fault;
+    not_full = next.not_full;
   }
     where
       next : IsSoPiece (more piece.world)
@@ -172,7 +211,8 @@ module _ {S T : Type 0} (e : Machine S ToolCommand) (h : Machine T HostCommand) 
       go answer.Slip is = so
       go answer.Turns is = so
       go answer.NumbersSpent is = so
-      go answer.PowerLost is = so
+      go answer.JournalFull is = so
+      go (answer.PowerLost whose) is = so
       go answer.NoMemory is = so
 
   keeps-then : (first more : World S T → Piece S T) → Keeps first → Keeps more
@@ -183,21 +223,27 @@ module _ {S T : Type 0} (e : Machine S ToolCommand) (h : Machine T HostCommand) 
   equipment-keeps input world = go (world.steps == most_steps)
     where
       step : Stepped S
-      step = stepped e Equipment world.moment world.left world.is_cut world.choice input world.equipment world.ways
+      step = equipment_makes e h input world
 
       go : (b : Bool) → IsSoPiece (if b then turned_out world else with_equipment e h world step)
       go true = out-keeps world
-      go false = step-so e Equipment world.moment world.left world.is_cut world.choice input world.equipment world.ways
+      go false =
+          of-both (NeverFills e) NoStores step.entries step.went (λ both. both.0)
+          (step-so e Equipment world.moment world.left (is_to_lose Equipment world.is_cut) world.choice input
+          world.equipment world.ways)
 
   host-keeps : (input : Input HostCommand) → Keeps (host_stepped e h input)
   host-keeps input world = go (world.steps == most_steps)
     where
       step : Stepped T
-      step = stepped h Host world.moment world.host_left false world.choice input world.host world.ways
+      step = host_makes e h input world
 
       go : (b : Bool) → IsSoPiece (if b then turned_out world else with_host e h world step)
       go true = out-keeps world
-      go false = step-so h Host world.moment world.host_left false world.choice input world.host world.ways
+      go false =
+          of-both (NeverFills h) NoStores step.entries step.went (λ both. both.1)
+          (step-so h Host world.moment world.host_left (is_to_lose Host world.is_cut) world.choice input world.host
+          world.ways)
 
   given-keeps : (side : Side) → Keeps (given e h side)
   given-keeps side world = go side (next_byte (characters_of (way_to side world).under_way))
@@ -229,8 +275,8 @@ module _ {S T : Type 0} (e : Machine S ToolCommand) (h : Machine T HostCommand) 
       keeps-then (equipment_stepped e h Time) (host_stepped e h Time) (equipment-keeps Time) (host-keeps Time)
 
   -- nothing is noted
-  quiet-keeps : IsSo [] answer.Went
-  quiet-keeps = only-notes [] answer.Went tt (λ is. cc) (λ is. cc)
+  quiet-keeps : IsSo NoStores [] answer.Went
+  quiet-keeps = notes-only [] answer.Went tt (λ is. cc) (λ is. cc) (λ is. cc)
 
   happens-keeps : (event : Event) → Keeps (happened e h event)
   happens-keeps (event.To side n) = times-keep n side
@@ -242,40 +288,47 @@ module _ {S T : Type 0} (e : Machine S ToolCommand) (h : Machine T HostCommand) 
   happens-keeps (event.Tool command) = equipment-keeps (Command command)
   happens-keeps (event.Host command) = host-keeps (Command command)
   happens-keeps (event.Cut call choice) = λ world. quiet-keeps
+  happens-keeps (event.HostCut call choice) = λ world. quiet-keeps
 
-  started-so : (world : World S T) (went : Went S Happening) → IsSoPiece (started_anew e h world went)
-  started-so world (Goes step) =
-      only-notes (entries_of Equipment world.moment (Power ∷ step.notes)) answer.Went
-      (noted-notes world.moment Equipment (Power ∷ step.notes) [] tt) (λ is. cc) (λ is. cc)
-  started-so world (Spent step) =
-      only-notes (entries_of Equipment world.moment (Power ∷ step.notes)) answer.NumbersSpent
-      (noted-notes world.moment Equipment (Power ∷ step.notes) [] tt) (λ is. cc) (λ is. cc)
+  started-so : (side : Side) (world : World S T) (went : Went (EndAt side S T) Happening)
+      → IsSoPiece (started_anew e h side world went)
+  started-so side world (Goes step) =
+      notes-only (entries_of side world.moment (Power ∷ step.notes)) answer.Went
+      (noted-notes world.moment side (Power ∷ step.notes) [] tt) (λ is. cc) (λ is. cc) (λ is. cc)
+  started-so side world (Spent step) =
+      notes-only (entries_of side world.moment (Power ∷ step.notes)) answer.NumbersSpent
+      (noted-notes world.moment side (Power ∷ step.notes) [] tt) (λ is. cc) (λ is. cc) (λ is. cc)
 
-  without-keeps : Keeps (without e h)
-  without-keeps world =
-      kept-then (again e h world) (equipment_stepped e h Time)
-      (started-so (darkened world) (e.restart world.equipment world.moment)) (equipment-keeps Time)
+  timed-keeps : (side : Side) → Keeps (timed e h side)
+  timed-keeps Equipment = equipment-keeps Time
+  timed-keeps Host = host-keeps Time
 
-  ended-so : (is_cut : Bool) (piece : Piece S T) → IsSoPiece piece → IsSoPiece (ended_by e h is_cut piece.went piece)
-  ended-so is_cut piece so = go is_cut piece.went refl
+  without-keeps : (side : Side) → Keeps (without e h side)
+  without-keeps side world =
+      kept-then (again e h side world) (timed e h side)
+      (started-so side (darkened side world) (restart_of e h side world)) (timed-keeps side)
+
+  ended-so : (cut : Option Side) (piece : Piece S T) → IsSoPiece piece → IsSoPiece (ended_by e h cut piece.went piece)
+  ended-so cut piece so = go cut piece.went refl
     where
-      again_so : piece.went ≢ answer.Slip → IsSoPiece (and_on answer.Went piece (without e h))
-      again_so other = kept-on piece (without e h) (so.notes other) without-keeps
+      again_so : (side : Side) → piece.went ≢ answer.Slip → IsSoPiece (and_on answer.Went piece (without e h side))
+      again_so side other = kept-on piece (without e h side) (so.notes other) (without-keeps side)
 
-      go : (is_cut : Bool) (went : WorldStep) → piece.went ≡ went → IsSoPiece (ended_by e h is_cut went piece)
-      go is_cut answer.PowerLost is = again_so (λ slip. cc)
-      go true answer.Went is = again_so (λ slip. cc)
-      go false answer.Went is = so
-      go is_cut answer.Slip is = so
-      go is_cut answer.Turns is = so
-      go is_cut answer.NumbersSpent is = so
-      go is_cut answer.NoMemory is = so
+      go : (cut : Option Side) (went : WorldStep) → piece.went ≡ went → IsSoPiece (ended_by e h cut went piece)
+      go cut (answer.PowerLost whose) is = again_so whose (λ slip. cc)
+      go (Some side) answer.Went is = again_so side (λ slip. cc)
+      go None answer.Went is = so
+      go cut answer.Slip is = so
+      go cut answer.Turns is = so
+      go cut answer.NumbersSpent is = so
+      go cut answer.JournalFull is = so
+      go cut answer.NoMemory is = so
 
-  met-keeps : (event : Event) (cut : Option ℕ) → Keeps (met e h event cut)
-  met-keeps event None world = ended-so false (happened e h event world) (happens-keeps event world)
-  met-keeps event (Some call) world =
-      ended-so true (and_more (armed call world) (happened e h event))
-      (kept-then (armed call world) (happened e h event) quiet-keeps (happens-keeps event))
+  met-keeps : (event : Event) (cut : Option (Side × ℕ)) → Keeps (met e h event cut)
+  met-keeps event None world = ended-so None (happened e h event world) (happens-keeps event world)
+  met-keeps event (Some (side, call)) world =
+      ended-so (Some side) (and_more (armed side call world) (happened e h event))
+      (kept-then (armed side call world) (happened e h event) quiet-keeps (happens-keeps event))
 
   event-keeps : (event : Event) → Keeps (after_event e h event)
   event-keeps (event.To side n) = λ world. met-keeps (event.To side n) world.cut world
@@ -287,6 +340,7 @@ module _ {S T : Type 0} (e : Machine S ToolCommand) (h : Machine T HostCommand) 
   event-keeps (event.Tool command) = λ world. met-keeps (event.Tool command) world.cut world
   event-keeps (event.Host command) = λ world. met-keeps (event.Host command) world.cut world
   event-keeps (event.Cut call choice) = happens-keeps (event.Cut call choice)
+  event-keeps (event.HostCut call choice) = happens-keeps (event.HostCut call choice)
 
   events-keep : (events : List Event) → Keeps (after_events e h events)
   events-keep [] = still-keeps
@@ -295,10 +349,10 @@ module _ {S T : Type 0} (e : Machine S ToolCommand) (h : Machine T HostCommand) 
 
   start-so : (equipment : Step S Happening) (host : Step T Happening) → IsSoPiece (at_start e h equipment host)
   start-so equipment host =
-      only-notes (log_with 0 Host host.notes (log_with 0 Equipment equipment.notes [])) answer.Went
+      notes-only (log_with 0 Host host.notes (log_with 0 Equipment equipment.notes [])) answer.Went
       (noted-notes 0 Host host.notes (log_with 0 Equipment equipment.notes [])
       (noted-notes 0 Equipment equipment.notes [] tt))
-      (λ is. cc) (λ is. cc)
+      (λ is. cc) (λ is. cc) (λ is. cc)
 
   run-so : (equipment : Step S Happening) (host : Step T Happening) (events : List Event)
       → IsSoPiece (piece_of e h equipment host events)
@@ -312,7 +366,8 @@ module _ {S T : Type 0} (e : Machine S ToolCommand) (h : Machine T HostCommand) 
   ends-so piece so powered = go piece.went refl
     where
       unlogged : (how : WorldStep) → AreNotes piece.entries → how ≢ answer.Went → how ≢ answer.Slip
-          → (how ≡ answer.Turns) ⊎ (how ≡ answer.NumbersSpent) → EndsOneWay how piece.entries
+          → (how ≡ answer.Turns) ⊎ ((how ≡ answer.NumbersSpent) ⊎ (how ≡ answer.JournalFull))
+          → EndsOneWay how piece.entries
       unlogged how are no_whole no_slip is = record {
         how = inr (inr is);
         whole = (λ whole. absurd (no_whole whole), λ end. absurd (no-end piece.entries are end));
@@ -339,12 +394,20 @@ module _ {S T : Type 0} (e : Machine S ToolCommand) (h : Machine T HostCommand) 
       go answer.Turns is =
           unlogged answer.Turns (so.notes (λ slip. cc)) (λ is. cc) (λ is. cc) (inl refl)
       go answer.NumbersSpent is =
-          unlogged answer.NumbersSpent (so.notes (λ slip. cc)) (λ is. cc) (λ is. cc) (inr refl)
-      go answer.PowerLost is = absurd (powered is)
+          unlogged answer.NumbersSpent (so.notes (λ slip. cc)) (λ is. cc) (λ is. cc) (inr (inl refl))
+      go answer.JournalFull is =
+          unlogged answer.JournalFull (so.notes (λ slip. cc)) (λ is. cc) (λ is. cc) (inr (inr refl))
+      go (answer.PowerLost whose) is = absurd (powered whose is)
       go answer.NoMemory is = absurd (so.no_fault is)
 
-  pub four-ways : (equipment : Step S Happening) (host : Step T Happening) (events : List Event)
+  pub five-ways : (equipment : Step S Happening) (host : Step T Happening) (events : List Event)
       → let piece = piece_of e h equipment host events in EndsOneWay piece.went (whole_log piece)
-  four-ways equipment host events =
+  five-ways equipment host events =
       ends-so (piece_of e h equipment host events) (run-so equipment host events)
       (run-powered e h equipment host events)
+
+  -- with no store of an end's own none is full
+  pub not-full : (equipment : Step S Happening) (host : Step T Happening) (events : List Event) → NeverFills e
+      → NeverFills h → (piece_of e h equipment host events).went ≢ answer.JournalFull
+  not-full equipment host events none none_there =
+      (run-so equipment host events).not_full (none, none_there)
