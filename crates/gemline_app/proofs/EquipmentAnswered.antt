@@ -7,7 +7,7 @@ use Rattle.gl_base.specs.declared.side.Side.TheVariants as side
 use Rattle.equipment_tables.specs.declared.plan.EquipmentPlan.{EquipmentPlan}
 use Rattle.equipment_tables.specs.declared.plan.Plans.{Plans}
 use Rattle.spool_show.specs.Told.{DiskTold}
-use Rattle.spool_slots.specs.File.{spool_break}
+use Rattle.spool_file.specs.File.{spool_break}
 use Rattle.end_run.specs.Counts.{Counts}
 use Rattle.end_run.specs.Script.{ScriptLine}
 use Rattle.end_run.specs.declared.ending.Ending.{Ending}
@@ -38,6 +38,7 @@ module _ (source : SourceTold) (files : FilesTold) (disk : DiskTold) (link : Lin
     by_ending ending.Closed counts = inl (inl refl)
     by_ending ending.Turns counts = inl (inr (inl refl))
     by_ending ending.NumbersSpent counts = inl (inr (inr refl))
+    by_ending ending.Full counts = inr tt
     by_ending ending.DiskFailed counts = inr counts.2.rose
     by_ending ending.LinkFailed counts = inr counts.0
     by_ending ending.WriteFailed counts = inr counts.1

@@ -4,7 +4,7 @@ use Rattle.disk_base.specs.Story.{Story}
 use Rattle.gl_base.specs.Told.{FilesTold, SinkTold, SourceTold}
 use Rattle.gl_base.specs.declared.side.Side.TheVariants as side
 use Rattle.spool_show.specs.Told.{DiskTold}
-use Rattle.spool_slots.specs.File.{SpoolFile, file_in, spool_break}
+use Rattle.spool_file.specs.File.{SpoolFile, file_in, spool_break}
 use Rattle.trace_log.specs.Log.{Happening}
 use Rattle.message_end.specs.Core.{Step, at_first}
 use Rattle.message_end.specs.Core.Went.{Goes, Spent}

@@ -1,5 +1,5 @@
 -- The equipment as it is run over a link, and what came of it.
-use Rattle.std.proofs.Common.{◌≡◌, refl, sym, ap, subst, ◌∙◌, inl, Bool, ℕ, List, Option, Some, None, Result, Ok, Err, arith}
+use Rattle.std.proofs.Common.{◌≡◌, refl, sym, ap, subst, ◌∙◌, inl, Bool, false, ℕ, List, Option, Some, None, Result, Ok, Err, arith}
 use Rattle.std.specs.Prelude.{is_some}
 use Rattle.disk_base.specs.SameDisk.{IsSameDisk}
 use Rattle.disk_base.specs.Story.{Story}
@@ -7,7 +7,7 @@ use Rattle.disk_base.specs.declared.disk.Disk as disk
 use Rattle.disk_base.proofs.Moments.{only_now}
 use Rattle.gl_base.specs.Told.{SinkTold}
 use Rattle.message_flow.specs.declared.step.StepOut.{StepOut}
-use Rattle.spool_slots.specs.File.{StandsFor}
+use Rattle.spool_file.specs.File.{StandsFor}
 use Rattle.spool_slots.specs.declared.states.Spent.{Spent}
 use Rattle.spool_show.specs.Told.{disk_told}
 use Rattle.trace_log.specs.Log.{Happening}
@@ -51,6 +51,7 @@ pub uses_one : (result : Result (Unit {0}) Stop) → Uses none_asked one_call no
 uses_one (Ok done) = record { calls = omega arith; bytes = omega arith }
 uses_one (Err stop.DiskFailed) = inl (omega arith)
 uses_one (Err stop.NumbersSpent) = tt
+uses_one (Err stop.Full) = tt
 uses_one (Err stop.NoMemory) = tt
 
 some_same : {A : Type 0} (a b : A) → Some a ≡ Some b → a ≡ b
@@ -92,9 +93,9 @@ module _ {D : Type 0} (members : disk.Ghosts D) where
     pub stopped_leaves :
         (s : EquipmentView) (input : Input ToolCommand) (now : ℕ) (node : Node OwnView Kind) (next : EquipmentView)
         (out : StepOut) → Steps members s input now node out (Err end)
-        → Leaves (stops s input now) (act s input now) next out (Err why)
+        → Leaves (stops s input now) false (act s input now) next out (Err why)
     stopped_leaves s input now node next out steps =
-        subst (λ (w : Stop). Leaves (stops s input now) (act s input now) next out (Err w)) (sym why_is)
+        subst (λ (w : Stop). Leaves (stops s input now) false (act s input now) next out (Err w)) (sym why_is)
         (stops-by members s input now node next out end steps)
 
     ended_left :
@@ -254,6 +255,7 @@ module _ {D : Type 0} (members : disk.Ghosts D) where
   counts_fixed {F} a b ending.Closed counts = ap (λ (x : Device F). x.fixed) counts.2
   counts_fixed {F} a b ending.Turns counts = ap (λ (x : Device F). x.fixed) counts.2
   counts_fixed {F} a b ending.NumbersSpent counts = ap (λ (x : Device F). x.fixed) counts.2
+  counts_fixed {F} a b ending.Full counts = ap (λ (x : Device F). x.fixed) counts.2
   counts_fixed {F} a b ending.DiskFailed counts = counts.2.fixed
   counts_fixed {F} a b ending.LinkFailed counts = ap (λ (x : Device F). x.fixed) counts.2
   counts_fixed {F} a b ending.WriteFailed counts = ap (λ (x : Device F). x.fixed) counts.2
@@ -286,6 +288,7 @@ module _ {D : Type 0} (members : disk.Ghosts D) where
   only_faults {F} a b ending.Turns counts = (counts.0, counts.1, ap (λ (x : Device F). faulty x.faults) counts.2)
   only_faults {F} a b ending.NumbersSpent counts =
       (counts.0, counts.1, ap (λ (x : Device F). faulty x.faults) counts.2)
+  only_faults {F} a b ending.Full counts = (counts.0, counts.1, ap (λ (x : Device F). faulty x.faults) counts.2)
   only_faults {F} a b ending.DiskFailed counts =
       (counts.0, counts.1, record { rose = counts.2.rose; fixed = refl })
   only_faults {F} a b ending.LinkFailed counts = (counts.0, counts.1, ap (λ (x : Device F). faulty x.faults) counts.2)

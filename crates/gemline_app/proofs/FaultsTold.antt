@@ -87,6 +87,8 @@ rounds_count out rounds end.Turns (at, wrote) =
     record { read = refl; file = refl; on_disk = refl; on_link = refl; write = wrote.health.same }
 rounds_count out rounds end.NumbersSpent (at, wrote) =
     record { read = refl; file = refl; on_disk = refl; on_link = refl; write = wrote.health.same }
+rounds_count out rounds end.JournalFull (at, wrote) =
+    record { read = refl; file = refl; on_disk = refl; on_link = refl; write = wrote.health.same }
 rounds_count out rounds end.NoMemory wrote =
     record { read = refl; file = refl; on_disk = refl; on_link = refl; write = wrote.health.same }
 rounds_count out rounds end.WriteFailed (at, short) =

@@ -36,6 +36,7 @@ module _ (source : SourceTold) (files : FilesTold) (disk : DiskTold) (link : Lin
   by_ending host left room stop how acts ending.Closed none did = inl (inl refl)
   by_ending host left room stop how acts ending.Turns none did = inl (inr (inl refl))
   by_ending host left room stop how acts ending.NumbersSpent none did = inl (inr (inr refl))
+  by_ending host left room stop how acts ending.Full none did = inr tt
   by_ending host left room stop how acts ending.DiskFailed none fails = absurd (none refl)
   by_ending host left room stop how acts ending.LinkFailed none fails = inr fails.fault.rose
   by_ending host left room stop how acts ending.WriteFailed none fails = inr fails.fault.rose

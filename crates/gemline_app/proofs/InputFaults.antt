@@ -311,6 +311,8 @@ by_end out plans schedule end.Turns (at, wrote) =
     record { read = refl; file = refl; on_disk = refl; on_link = refl; write = wrote.health.same }
 by_end out plans schedule end.NumbersSpent (at, wrote) =
     record { read = refl; file = refl; on_disk = refl; on_link = refl; write = wrote.health.same }
+by_end out plans schedule end.JournalFull (at, wrote) =
+    record { read = refl; file = refl; on_disk = refl; on_link = refl; write = wrote.health.same }
 by_end out plans schedule end.NoMemory part =
     record { read = refl; file = refl; on_disk = refl; on_link = refl; write = part.wrote.health.same }
 by_end out plans schedule end.WriteFailed short =

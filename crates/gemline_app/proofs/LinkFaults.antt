@@ -76,6 +76,9 @@ by_run link out host left room stop how acts ending.Turns none (at, did) =
 by_run link out host left room stop how acts ending.NumbersSpent none (at, made, spent) =
     made_counts link out host left room stop acts NumbersSpent
     (record { read = refl; file = refl; on_disk = refl; on_link = refl; write = refl }) made
+by_run link out host left room stop how acts ending.Full none (at, made, full) =
+    made_counts link out host left room stop acts NoMemory
+    (record { read = refl; file = refl; on_disk = refl; on_link = refl; write = refl }) made
 by_run link out host left room stop how acts ending.DiskFailed none fails = absurd (none refl)
 by_run link out host left room stop how acts ending.LinkFailed none fails =
     record { read = refl; file = refl; on_disk = refl; on_link = fails.fault.rose; write = fails.wrote.health.same }
@@ -266,6 +269,8 @@ module _ (source : SourceTold) (files : FilesTold) (disk : DiskTold) (link : Lin
     ending_counts ending.NumbersSpent counts =
         none_counts NumbersSpent (record { read = refl; file = refl; on_disk = refl; on_link = refl; write = refl })
         counts
+    ending_counts ending.Full counts =
+        none_counts NoMemory (record { read = refl; file = refl; on_disk = refl; on_link = refl; write = refl }) counts
     ending_counts ending.NoMemory counts =
         none_counts NoMemory (record { read = refl; file = refl; on_disk = refl; on_link = refl; write = refl }) counts
     ending_counts ending.DiskFailed counts = record {

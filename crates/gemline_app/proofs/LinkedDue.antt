@@ -57,6 +57,7 @@ module _ (source : SourceTold) (files : FilesTold) (disk : DiskTold) (link : Lin
         inl (ap outcome_of_ending (one_ending ending.Turns wanted (sym at ∙ is)))
     ended_due how acts ending.NumbersSpent wanted on_disk (at, made, spent) is =
         inl (ap outcome_of_ending (one_ending ending.NumbersSpent wanted (sym at ∙ is)))
+    ended_due how acts ending.Full wanted on_disk (at, made, full) is = inr tt
     ended_due how acts ending.DiskFailed wanted on_disk fails is = inr (on_disk refl)
     ended_due how acts ending.LinkFailed wanted on_disk fails is = inr fails.fault.rose
     ended_due how acts ending.WriteFailed wanted on_disk fails is = inr fails.fault.rose

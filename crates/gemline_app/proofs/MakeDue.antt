@@ -26,6 +26,7 @@ module _ (source : SourceTold) (files : FilesTold) (disk : DiskTold) (link : Lin
     rounds_due end.Slip is (at, wrote) is_due = inl (is ∙ sym (is_so is_due ∙ ap outcome_of_run at))
     rounds_due end.Turns is (at, wrote) is_due = inl (is ∙ sym (is_so is_due ∙ ap outcome_of_run at))
     rounds_due end.NumbersSpent is (at, wrote) is_due = inl (is ∙ sym (is_so is_due ∙ ap outcome_of_run at))
+    rounds_due end.JournalFull is (at, wrote) is_due = inr (hindered source files disk link out outcome is)
     rounds_due end.NoMemory is wrote is_due = inr (hindered source files disk link out outcome is)
     rounds_due end.WriteFailed is (at, short) is_due =
         inr (subst (Hinders source files disk link out) (sym is) short.fault.rose)

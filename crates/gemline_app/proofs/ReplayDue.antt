@@ -13,7 +13,7 @@ use Rattle.end_pair.specs.declared.answers.RunEnd.TheVariants as end
 use Rattle.end_pair.specs.declared.answers.WorldStep.{WorldStep}
 use Rattle.end_pair.specs.declared.answers.WorldStep.TheVariants as went
 use Rattle.end_pair.specs.Laws.{EndsOneWay}
-use Rattle.end_pair.proofs.FourWays.{carried-out, four-ways}
+use Rattle.end_pair.proofs.FiveWays.{carried-out, five-ways, not-full}
 use Rattle.tool_step.specs.End as equipment
 use Rattle.host_node.specs.Host as host
 use Rattle.line_world.specs.Run.{Runs, equipment_start, host_start, log_of, went_of}
@@ -112,22 +112,30 @@ outcome_of_run went.Went = Done
 outcome_of_run went.Slip = Slip
 outcome_of_run went.Turns = TurnsSpent
 outcome_of_run went.NumbersSpent = NumbersSpent
-outcome_of_run went.PowerLost = NoMemory
+outcome_of_run went.JournalFull = NoMemory
+outcome_of_run (went.PowerLost side) = NoMemory
 outcome_of_run went.NoMemory = NoMemory
 
-run-due : (how : WorldStep) (log : List Entry) (due : Outcome) → EndsOneWay how log → IsRunDue how log due
-    → due ≡ outcome_of_run how
-run-due how log due ends (inl (slip, is)) = is ∙ sym (ap outcome_of_run (ends.slip.1 slip))
-run-due how log due ends (inr (inl (turns, is))) = is ∙ sym (ap outcome_of_run turns)
-run-due how log due ends (inr (inr (inl (spent, is)))) = is ∙ sym (ap outcome_of_run spent)
-run-due how log due ends (inr (inr (inr (no_slip, no_turns, no_numbers, is)))) =
-    is ∙ sym (ap outcome_of_run (carried-out how log ends no_slip no_turns no_numbers))
+run-due : (how : WorldStep) (log : List Entry) (due : Outcome) → EndsOneWay how log → how ≢ went.JournalFull
+    → IsRunDue how log due → due ≡ outcome_of_run how
+run-due how log due ends not_full (inl (slip, is)) = is ∙ sym (ap outcome_of_run (ends.slip.1 slip))
+run-due how log due ends not_full (inr (inl (turns, is))) = is ∙ sym (ap outcome_of_run turns)
+run-due how log due ends not_full (inr (inr (inl (spent, is)))) = is ∙ sym (ap outcome_of_run spent)
+run-due how log due ends not_full (inr (inr (inr (no_slip, no_turns, no_numbers, is)))) =
+    is ∙ sym (ap outcome_of_run (carried-out how log ends no_slip no_turns no_numbers not_full))
+
+-- neither end has a store of its own that could be full
+never-full : (plans : Plans) (schedule : Schedule) → went_of plans schedule ≢ went.JournalFull
+never-full plans schedule =
+    not-full equipment.machine host.host_machine (equipment_start plans) (host_start plans.host) schedule.events
+    (λ s input now. refl) (λ s input now. refl)
 
 pub schedule-due : (plans : Plans) (schedule : Schedule) (due : Outcome)
     → IsRunDue (went_of plans schedule) (log_of plans schedule) due → due ≡ outcome_of_run (went_of plans schedule)
 schedule-due plans schedule due =
     run-due (went_of plans schedule) (log_of plans schedule) due
-    (four-ways equipment.machine host.host_machine (equipment_start plans) (host_start plans.host) schedule.events)
+    (five-ways equipment.machine host.host_machine (equipment_start plans) (host_start plans.host) schedule.events)
+    (never-full plans schedule)
 
 ended_due :
     (source : SourceTold) (files : FilesTold) (disk : DiskTold) (link : LinkTold) (out : SinkTold) (plans : Plans)
@@ -142,6 +150,8 @@ ended_due source files disk link out plans schedule end.Turns outcome due is (at
     inl (is ∙ sym (is_due ∙ ap outcome_of_run at))
 ended_due source files disk link out plans schedule end.NumbersSpent outcome due is (at, wrote) is_due =
     inl (is ∙ sym (is_due ∙ ap outcome_of_run at))
+ended_due source files disk link out plans schedule end.JournalFull outcome due is full is_due =
+    inr (hindered source files disk link out outcome is)
 ended_due source files disk link out plans schedule end.NoMemory outcome due is part is_due =
     inr (hindered source files disk link out outcome is)
 ended_due source files disk link out plans schedule end.WriteFailed outcome due is short is_due =

@@ -7,7 +7,7 @@ use Rattle.gl_base.specs.Told.{FilesTold, SinkTold, SourceTold}
 use Rattle.gl_base.specs.declared.link.LinkIn.{LinkIn}
 use Rattle.gl_base.specs.declared.side.Side.TheVariants as side
 use Rattle.spool_show.specs.Told.{DiskTold}
-use Rattle.spool_slots.specs.File.{SpoolFile, StandsFor, file_in, spool_break}
+use Rattle.spool_file.specs.File.{SpoolFile, StandsFor, file_in, spool_break}
 use Rattle.trace_log.specs.Log.{Happening}
 use Rattle.trace_log.specs.declared.commands.ToolCommand.{ToolCommand}
 use Rattle.message_end.specs.Core.{Step}

@@ -1,5 +1,5 @@
 -- What `host` reads, writes and sends (this profile).
-use Rattle.std.specs.Prelude.{◌≡◌, ◌≢◌, ◌^◌, ℕ, List, [], Option}
+use Rattle.std.specs.Prelude.{◌≡◌, ◌≢◌, ◌^◌, ℕ, List, Option}
 use Rattle.gl_base.specs.Told.{FilesTold, SinkTold, SourceTold}
 use Rattle.gl_base.specs.declared.link.LinkIn.{LinkIn}
 use Rattle.gl_base.specs.declared.side.Side.TheVariants as side
@@ -7,7 +7,7 @@ use Rattle.line_end.specs.declared.plan.HostPlan.{HostPlan}
 use Rattle.message_end.specs.Calls.{deadline_of_end}
 use Rattle.message_end.specs.Core.{Step}
 use Rattle.message_end.specs.Ends.{Asked}
-use Rattle.message_end.specs.Parts.{Node, started}
+use Rattle.message_end.specs.Parts.{Node, bare_started}
 use Rattle.trace_log.specs.Log.{Happening}
 use Rattle.trace_log.specs.declared.commands.HostCommand.{HostCommand}
 use Rattle.transact.specs.Numbers.{numbers_from}
@@ -32,7 +32,7 @@ host_due host = deadline_of_end host.core
 
 -- its start by a plan
 abbrev pub host_start : HostPlan → Step (Node HostOwn Kind) Happening
-host_start plan = started (end_plan plan) (first_own plan) [] (numbers_from 0 (2 ^ 32))
+host_start plan = bare_started (end_plan plan) (first_own plan) (numbers_from 0 (2 ^ 32))
 
 -- its run by a plan, with the lines of a script and so many polls, where these answers of the link are to come
 abbrev pub host_run : HostPlan → List ScriptLine → ℕ → List LinkIn → Piece (Node HostOwn Kind) HostCommand

@@ -43,7 +43,7 @@ use Rattle.secs_text.specs.Grammar.{ReadsAs}
 use Rattle.secs_text.specs.declared.text_fault.TextFault.{TextFault}
 use Rattle.disk_base.specs.Story.{Story}
 use Rattle.spool_show.specs.Told.{DiskTold}
-use Rattle.spool_slots.specs.File.{file_in, spool_break}
+use Rattle.spool_file.specs.File.{file_in, spool_break}
 use Rattle.gemline_app.specs.LinkTold.{LinkTold}
 use Rattle.gemline_app.specs.Linked.{outcome_of_ending}
 use Rattle.gemline_app.specs.Gemline.{IsRun}
@@ -88,8 +88,8 @@ IsInputDue limit Asks source due =
     × (((limit < length bytes) × (due ≡ Longer)) ⊎ ((length bytes ≤ limit) × Asks bytes due))
 
 -- what is due of a run, by how it goes and by its log: a slip is the last of its log; or it has no turn left; or
--- numbers were to be drawn with none left; or none of these, and so it is carried out (`runs_end_four_ways` of
--- end_pair)
+-- numbers were to be drawn with none left; or none of these, and so it is carried out (`runs_end_five_ways` and
+-- `never_full` of end_pair)
 abbrev pub IsRunDue : WorldStep → List Entry → Outcome → Type 0
 IsRunDue how log due =
     (OnNewest IsSlip log × (due ≡ Slip))

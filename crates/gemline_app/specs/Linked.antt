@@ -22,12 +22,13 @@ use Rattle.gemline_app.specs.declared.outcome.Outcome.TheVariants.{Done, BadScri
 
 -- ---- a run
 
--- what the end of a run is an outcome of
+-- what the end of a run is an outcome of; neither end that runs so has a journal that could be full
 abbrev pub outcome_of_ending : Ending → Outcome
 outcome_of_ending ending.Stopped = Done
 outcome_of_ending ending.Closed = Done
 outcome_of_ending ending.Turns = TurnsSpent
 outcome_of_ending ending.NumbersSpent = NumbersSpent
+outcome_of_ending ending.Full = NoMemory
 outcome_of_ending ending.DiskFailed = DiskFailed
 outcome_of_ending ending.LinkFailed = LinkFailed
 outcome_of_ending ending.WriteFailed = WriteFailed

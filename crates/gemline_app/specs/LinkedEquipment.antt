@@ -2,7 +2,7 @@
 use Rattle.std.specs.Prelude.{Bool, ℕ, List, Option, Some, None, is_some}
 use Rattle.disk_base.specs.declared.disk.Disk as disk
 use Rattle.message_flow.specs.declared.step.StepOut.{StepOut}
-use Rattle.spool_slots.specs.Format.{empty_file}
+use Rattle.spool_file.specs.Format.{empty_file}
 use Rattle.spool_slots.specs.declared.states.Spent.{Spent}
 use Rattle.trace_log.specs.declared.commands.ToolCommand.{ToolCommand}
 use Rattle.message_end.specs.declared.end.Stop.{Stop}

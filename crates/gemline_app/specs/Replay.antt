@@ -19,12 +19,13 @@ use Rattle.gemline_app.specs.declared.outcome.FileRole.TheVariants as role
 use Rattle.gemline_app.specs.declared.outcome.Outcome.{Outcome}
 use Rattle.gemline_app.specs.declared.outcome.Outcome.TheVariants.{Done, BadLine, TurnsSpent, NumbersSpent, Slip, NoMemory, WriteFailed}
 
--- what the end of a run is an outcome of
+-- what the end of a run is an outcome of; neither end has a journal that could be full
 abbrev pub outcome_of_end : RunEnd → Outcome
 outcome_of_end end.Whole = Done
 outcome_of_end end.Slip = Slip
 outcome_of_end end.Turns = TurnsSpent
 outcome_of_end end.NumbersSpent = NumbersSpent
+outcome_of_end end.JournalFull = NoMemory
 outcome_of_end end.NoMemory = NoMemory
 outcome_of_end end.WriteFailed = WriteFailed
 

@@ -1,6 +1,6 @@
 //! The equipment's end of a line over its spool file, run by a script.
 
-ghost use Rattle.std.specs.Prelude.{◌≡◌, ◌<◌, ◌^◌, None, Option, Some};
+ghost use Rattle.std.specs.Prelude.{◌≡◌, ◌<◌, ◌^◌, None, Option, Some, false};
 ghost use Rattle.disk_base.specs.Disk.{TellsAsBefore, TellsBytes};
 ghost use Rattle.disk_base.specs.SameDisk.{IsSameDisk};
 ghost use Rattle.gl_base.specs.declared.side.Side.TheVariants as side;
@@ -93,6 +93,7 @@ impl<D: Disk + Drop> LinkedEnd for LinkedEquipment<D> {
         requires out { IsEmpty out.old }
         ensures step { IsGoing D.Disk self.old.going → Leaves
             (linked_machine.stops (linked_view D.Disk self.old.going) (input_of input.entry) now)
+            false
             (linked_machine.act (linked_view D.Disk self.old.going) (input_of input.entry) now)
             (linked_view D.Disk self.new.going)
             out.new
@@ -156,6 +157,7 @@ impl<D: Disk + Drop> LinkedEquipment<D> {
         requires out { IsEmpty out.old }
         ensures step { IsIn D.Disk equipment → Leaves
             (linked_machine.stops (view_in D.Disk equipment) (input_of input.entry) now)
+            false
             (linked_machine.act (view_in D.Disk equipment) (input_of input.entry) now)
             (linked_view D.Disk self.new.going)
             out.new

@@ -1,6 +1,6 @@
 //! The host's end of a line, run by a script.
 
-ghost use Rattle.std.specs.Prelude.{◌≡◌, ◌<◌, ◌^◌, []};
+ghost use Rattle.std.specs.Prelude.{◌≡◌, ◌<◌, ◌^◌, [], false};
 ghost use Rattle.line_end.specs.Plan.{HostPlanFits};
 ghost use Rattle.trace_log.specs.Commands.{HostCommandFits};
 ghost use Rattle.message_end.specs.Ends.{IsEmpty, Leaves, MayTake, Uses, input_of, none_asked};
@@ -82,6 +82,7 @@ impl LinkedEnd for LinkedHost {
         requires input { MayTake HostCommandFits (input_of input) }
         requires out { IsEmpty out.old }
         ensures step { Leaves []
+            false
             (host_machine.act self.old.host (input_of input.entry) now)
             self.new.host
             out.new
@@ -206,7 +207,7 @@ fn run_host<L: Link, W: Sink>(
         notes: Row::new(alloc),
     };
     // (it has numbers to start with, and no disk)
-    let Ok(host) = Host::start(alloc, plan, (), &mut step) else {
+    let Ok(host) = Host::start(alloc, *plan, 0, &mut step) else {
         return Outcome::NoMemory;
     };
     let mut linked = LinkedHost { host };
@@ -234,7 +235,8 @@ pub(crate) fn outcome_of_ending(ended: Ending) -> Outcome
         Ending::LinkFailed => Outcome::LinkFailed,
         Ending::WriteFailed => Outcome::WriteFailed,
         Ending::DiskFailed => Outcome::DiskFailed,
-        Ending::NoMemory => Outcome::NoMemory,
+        // (neither end has a journal)
+        Ending::Full | Ending::NoMemory => Outcome::NoMemory,
     }
 }
 

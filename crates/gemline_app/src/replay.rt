@@ -76,7 +76,8 @@ pub(crate) fn outcome_of_end(end: RunEnd) -> Outcome
         RunEnd::Slip => Outcome::Slip,
         RunEnd::Turns => Outcome::TurnsSpent,
         RunEnd::NumbersSpent => Outcome::NumbersSpent,
-        RunEnd::NoMemory => Outcome::NoMemory,
+        // (neither end has a journal)
+        RunEnd::JournalFull | RunEnd::NoMemory => Outcome::NoMemory,
         RunEnd::WriteFailed => Outcome::WriteFailed,
     }
 }

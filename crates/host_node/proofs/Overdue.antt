@@ -74,5 +74,6 @@ pub both_err :
 both_err first second step new out stop.NumbersSpent is =
     done_append printed_note first second step
     ∙ ap (λ (w : Went (EndView Kind) Note). and_then w (all_done printed_note second)) is
+both_err first second step new out stop.Full is = absurd is
 both_err first second step new out stop.DiskFailed is = absurd is
 both_err first second step new out stop.NoMemory is = tt

@@ -8,14 +8,12 @@ use Rattle.message_end.specs.declared.end.Stop.{Stop}
 use Rattle.message_end.specs.Core.{Command, EndView, Went, and_then, carry}
 use Rattle.message_end.specs.Core.Went.{Goes}
 use Rattle.message_end.specs.Duties.{Duty, all_done}
-use Rattle.message_end.specs.Parts.{AreDone, ComesTo, Node, Takes, core_after, leads, on_the_way, went_with}
+use Rattle.message_end.specs.Parts.{AreDone, ComesTo, Takes, core_after, leads, on_the_way, went_with}
 use Rattle.message_end.proofs.Carrying.{done_append}
 use Rattle.message_end.proofs.Parts.{leads-behind}
 use Rattle.host_node.specs.declared.comms.HostComms.{HostComms}
+use Rattle.host_node.specs.Calls.{HostNode}
 use Rattle.host_node.specs.Host.{HostOwn, HostTurn, Kind, ends_in, enters, notes_comms}
-
-abbrev pub HostNode : Type 0
-HostNode = Node HostOwn Kind
 
 abbrev pub node : HostOwn → EndView Kind → HostNode
 node own core = record { own = own; core = core }

@@ -16,6 +16,7 @@ use Rattle.trace_log.specs.declared.commands.HostCommand.TheVariants as told
 use Rattle.trace_log.specs.declared.names.CommsName.{CommsName}
 use Rattle.trace_log.specs.declared.names.CommsName.TheVariants as name
 use Rattle.trace_log.specs.declared.names.Name.{Name}
+use Rattle.transact.specs.Numbers.{NumbersView}
 use Rattle.transact.specs.declared.begun.Begun.{Begun}
 use Rattle.message_end.specs.declared.end.Took.{Took}
 use Rattle.message_end.specs.declared.end.Took.TheVariants as took
@@ -27,6 +28,7 @@ use Rattle.message_end.specs.Duties.{Duty}
 use Rattle.message_end.specs.Endings.{ends_open, notes_failed}
 use Rattle.message_end.specs.Ends.{Input, Machine}
 use Rattle.message_end.specs.Ends.Input.{Char, Command as Told, Time}
+use Rattle.message_end.specs.Laws.{new_end}
 use Rattle.message_end.specs.Parts.{Design, Node, Part, Turn, closes, fixed_turn, leads, led_turn, machine_of}
 use Rattle.message_end.specs.Plan.{EndPlan}
 use Rattle.host_node.specs.declared.comms.HostComms.{HostComms}
@@ -37,10 +39,11 @@ use Rattle.host_node.specs.Replies.{is_established_by, is_establishing, reply_it
 abbrev pub Kind : Type 0
 Kind = Unit {0}
 
--- what it keeps beside its core: its plan, and its state of communication
+-- what it keeps beside its core: its plan, its state of communication, and the message that its last step delivered
 pub record HostOwn : Type 0 where
   pub plan : HostPlan
   pub comms : HostComms
+  pub delivered : Option Message
 
 abbrev pub HostTurn : Type 0
 HostTurn = Turn HostOwn Kind
@@ -101,9 +104,13 @@ abbrev pub breaks : HostOwn → EndView Kind → Option Header → HostTurn
 breaks own e None = fixed_turn own []
 breaks own e (Some header) = ends_in own (failed_comms own.comms) (ends_all e (Some header))
 
+-- a step begins: nothing was delivered in it
+abbrev pub undelivered : HostOwn → HostOwn
+undelivered own = record own { delivered = None }
+
 -- the timer of the line (SEMI E4, timers)
 abbrev pub ticks : ℕ → Part HostOwn Kind
-ticks now own e = leads (Tick now) (λ behind. breaks own behind (failed_at e now)) e
+ticks now own e = leads (Tick now) (λ behind. breaks (undelivered own) behind (failed_at e now)) e
 
 -- T4: a reply of which the next block is late is given up
 abbrev pub gives_up : Option Header → List (Command Kind)
@@ -173,16 +180,20 @@ follows own false = fixed_turn own []
 abbrev pub heeds_secondary : HostOwn → EndView Kind → Header → Message → HostTurn
 heeds_secondary own e header message = led_turn (Answer header) (follows own (is_accepted e header message))
 
--- a message was delivered, the last block of which had this header
+-- what a message that was delivered asks for; its last block had this header
 abbrev pub heeds : HostOwn → EndView Kind → Header → Message → HostTurn
 heeds own e header message =
     if is_disabled own.comms then fixed_turn own (Note (Happening.Dropped (message_name message)) ∷ [])
     else if is_primary message then heeds_primary own message
     else heeds_secondary own e header message
 
+-- a message was delivered, whatever comes of it
+abbrev pub delivers : Message → HostTurn → HostTurn
+delivers message turn = record { own = record turn.own { delivered = Some message }; duties = turn.duties }
+
 -- what a block was: a reply that is no good is given up
 abbrev pub judges : HostOwn → EndView Kind → Header → Flow → HostTurn
-judges own e header (flow.Whole message check) = heeds own e header message
+judges own e header (flow.Whole message check) = delivers message (heeds own e header message)
 judges own e header flow.Unexpected = fixed_turn own (GiveUp header ∷ [])
 judges own e header flow.TooLong = fixed_turn own (GiveUp header ∷ [])
 judges own e header flow.Crowded = fixed_turn own (GiveUp header ∷ [])
@@ -249,7 +260,11 @@ abbrev pub end_plan : HostPlan → EndPlan
 end_plan plan = record { side = Host; line = plan.line }
 
 abbrev pub first_own : HostPlan → HostOwn
-first_own plan = record { plan = plan; comms = first_comms plan }
+first_own plan = record { plan = plan; comms = first_comms plan; delivered = None }
+
+-- a host at its start, with these numbers
+abbrev pub at_start : HostPlan → NumbersView → Node HostOwn Kind
+at_start plan numbers = record { own = first_own plan; core = new_end (end_plan plan) numbers }
 
 abbrev pub host_design : Design HostOwn Kind HostCommand
 host_design = record {

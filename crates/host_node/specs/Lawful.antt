@@ -32,13 +32,13 @@ use Rattle.message_end.specs.Duties.{Duty}
 use Rattle.message_end.specs.Endings.{ends_failed, ends_front, ends_one, is_of_open}
 use Rattle.message_end.specs.Ends.{Input, KeepsLaw, MayTake}
 use Rattle.message_end.specs.Ends.Input.{Char, Command as Told, Time}
-use Rattle.message_end.specs.Parts.{Did, Node, core_after, fixed_turn, started}
+use Rattle.message_end.specs.Parts.{Did, Node, bare_started, core_after, fixed_turn}
 use Rattle.message_end.proofs.Lower.{lower}
 use Rattle.message_end.proofs.NodeLawful.{node-lawful}
 use Rattle.message_end.proofs.Parts.{AreDueDuties, AreQuietDuties, IsDue, IsInputPart, IsQuiet, IsQuietTurn, IsStepOf, led-turn}
 use Rattle.host_node.specs.declared.comms.HostComms.{HostComms}
 use Rattle.host_node.specs.declared.comms.HostComms.TheVariants as comms
-use Rattle.host_node.specs.Host.{HasPlan, HostOwn, HostTurn, Kind, breaks, brings, drops, ends_all, ends_in, ends_late, enabled_comms, end_plan, enters, expires, failed_comms, fails, first_own, follows, function_with, given, gives_up, heeds, heeds_primary, heeds_secondary, host_design, host_machine, is_accepted, is_disabled, is_full, judges, late_duties, name_of, notes_comms, obeys, offers, parts, replies, sends, sends_reply, ticks, unsent_of}
+use Rattle.host_node.specs.Host.{HasPlan, HostOwn, HostTurn, Kind, breaks, brings, drops, ends_all, ends_in, ends_late, enabled_comms, end_plan, enters, expires, failed_comms, fails, first_own, follows, function_with, given, gives_up, heeds, heeds_primary, heeds_secondary, host_design, host_machine, is_accepted, is_disabled, is_full, judges, late_duties, name_of, notes_comms, obeys, offers, parts, replies, sends, sends_reply, ticks, undelivered, unsent_of}
 use Rattle.host_node.specs.Replies.{is_acknowledged, is_establishing, is_question, no_identity, reply_item}
 use Rattle.host_node.specs.Spelled.{spelled_code, spelled_established, spelled_nothing}
 
@@ -237,7 +237,8 @@ module _ (plan : HostPlan) (base : ℕ) where
   judges-quiet :
       (own : HostOwn) (e : EndView Kind) (header : Header) (came : Flow) → HasPlan plan own
       → Quiet (judges own e header came)
-  judges-quiet own e header (flow.Whole message check) sound = heeds-quiet own e header message sound
+  judges-quiet own e header (flow.Whole message check) sound =
+      let is = heeds-quiet own e header message sound in record { quiet = is.quiet; sound = is.sound }
   judges-quiet own e header flow.Unexpected sound = fixed-quiet own (GiveUp header ∷ []) sound
       (record { calls = (tt, tt); may = (tt, tt) })
   judges-quiet own e header flow.TooLong sound = fixed-quiet own (GiveUp header ∷ []) sound
@@ -331,8 +332,8 @@ module _ (plan : HostPlan) (base : ℕ) where
     first_is = tt;
     tick_is = λ own e sound core.
         led-turn (end_plan plan) base (HasPlan plan) (Tick now)
-        (breaks own (core_after (Tick now) e) (failed_at e now))
-        (breaks-quiet own (core_after (Tick now) e) (failed_at e now) sound);
+        (breaks (undelivered own) (core_after (Tick now) e) (failed_at e now))
+        (breaks-quiet (undelivered own) (core_after (Tick now) e) (failed_at e now) sound);
     due_is = ((λ own e sound core. record { due = late-due now; sound = sound }), tt);
     given_is = input-is input now fits may;
     later_is = tt;
@@ -344,14 +345,14 @@ module _ (plan : HostPlan) (base : ℕ) where
 -- nothing is to be drawn in the first step
 begins :
     (plan : HostPlan) (step : Step (Node HostOwn Kind) Happening)
-    → host_machine.act (started (end_plan plan) (first_own plan) [] (numbers_from 0 (2 ^ 32))).next Time 0 ≢ Spent step
+    → host_machine.act (bare_started (end_plan plan) (first_own plan) (numbers_from 0 (2 ^ 32))).next Time 0 ≢ Spent step
 unfolding late_duties
 begins plan step same = absurd (cc)
 
 pub host_lawful :
     (plan : HostPlan) (store : Unit {0}) → HostPlanFits plan → Unit {0}
     → KeepsLaw (end_plan plan) (Did (HasPlan plan) (end_plan plan)) HostCommandFits
-    (Goes (started (end_plan plan) (first_own plan) [] (numbers_from 0 (2 ^ 32)))) host_machine
+    (Goes (bare_started (end_plan plan) (first_own plan) (numbers_from 0 (2 ^ 32)))) host_machine
 host_lawful plan store fits holds =
     node-lawful lower (end_plan plan) fits.line (HasPlan plan) host_design HostCommandFits (first_own plan) refl
     (λ own sound. sound) (λ own sound. ap end_plan sound) (λ base input now may. step-is plan base input now fits may)

@@ -1,3 +1,4 @@
+pub mod Calls
 pub mod Host
 pub mod Lawful
 pub mod Replies

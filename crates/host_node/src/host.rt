@@ -1,15 +1,18 @@
 //! The host as an end, and its step in its parts. Replies, what comes too late and the end of all messages stand
 //! beside.
 
-ghost use Rattle.std.specs.Prelude.{◌≡◌, ◌+◌, ◌^◌, ◌<◌, ◌≤◌, false, [], Some};
+ghost use Rattle.std.specs.Prelude.{◌≡◌, ◌+◌, ◌^◌, ◌<◌, ◌≤◌, false, [], Some, IfOk};
 ghost use Rattle.arrayvec.specs.ArrayVec.{array_vec_len};
 ghost use Rattle.block_codec.specs.Protocol.{longest_text};
 ghost use Rattle.message_flow.specs.Assembly.{WholeFits};
 ghost use Rattle.trace_log.specs.Commands.{HostCommandFits, IsPrimaryName};
 ghost use Rattle.message_end.specs.Calls.{deadline_of_end};
-ghost use Rattle.message_end.specs.Ends.{EndsBy, IsEmpty, Leaves, MayTake, input_of, most_calls};
-ghost use Rattle.message_end.specs.Parts.{Takes, TakesAll, closes, fixed_turn};
-ghost use Rattle.host_node.specs.Host.{breaks, ends_late, enters, follows, given, heeds, heeds_primary, heeds_secondary, host_machine, is_acceptance, judges, obeys, offers, parts, sends, takes, ticks};
+ghost use Rattle.line_end.specs.Plan.{HostPlanFits};
+ghost use Rattle.transact.specs.Numbers.{numbers_from};
+ghost use Rattle.message_end.specs.Core.Went.{Goes};
+ghost use Rattle.message_end.specs.Ends.{EndsBy, HasGone, IsEmpty, Leaves, MayTake, input_of, most_calls};
+ghost use Rattle.message_end.specs.Parts.{Takes, TakesAll, bare_started, closes, fixed_turn};
+ghost use Rattle.host_node.specs.Host.{at_start, breaks, end_plan, ends_late, enters, first_own, follows, given, heeds, heeds_primary, heeds_secondary, host_machine, is_acceptance, judges, obeys, offers, parts, sends, takes, ticks};
 
 use crate::comms::{HostComms, note_comms};
 use crate::endings::end_all;
@@ -31,7 +34,8 @@ use transact::Match;
 pub struct Host {
     plan: HostPlan,
     comms: HostComms,
-    core: MessageEnd<()>,
+    pub(crate) delivered: Option<Message>,
+    pub(crate) core: MessageEnd<()>,
 }
 
 impl Model for Host {
@@ -42,7 +46,7 @@ impl Model for Host {
     ghost Value = { Node HostOwn Kind };
 
     ghost view = { λ inside. record {
-      own = record { plan = inside.plan; comms = inside.comms };
+      own = record { plan = inside.plan; comms = inside.comms; delivered = inside.delivered };
       core = inside.core;
     } };
 
@@ -61,7 +65,7 @@ impl End for Host {
     ghost use Rattle.message_end.specs.Calls.{deadline_of_end};
     ghost use Rattle.message_end.specs.Core.Went.{Goes};
     ghost use Rattle.message_end.specs.Ends.{most_calls};
-    ghost use Rattle.message_end.specs.Parts.{Did, Node, started};
+    ghost use Rattle.message_end.specs.Parts.{Did, Node, bare_started};
     ghost use Rattle.trace_log.specs.Commands.{HostCommandFits};
     ghost use Rattle.transact.specs.Numbers.{numbers_from};
     ghost use Rattle.host_node.specs.Host.{HasPlan, HostOwn, Kind, end_plan, first_own, host_machine};
@@ -81,7 +85,7 @@ impl End for Host {
 
     ghost plan_of = { end_plan };
 
-    ghost start = { λ plan none. Goes (started (end_plan plan) (first_own plan) [] (numbers_from 0 (2 ^ 32))) };
+    ghost start = { λ plan none. Goes (bare_started (end_plan plan) (first_own plan) (numbers_from 0 (2 ^ 32))) };
 
     ghost machine = { host_machine };
 
@@ -103,13 +107,7 @@ impl End for Host {
     ghost lawful = { host_lawful };
 
     fn start(alloc: Global, plan: &HostPlan, _: (), out: &mut StepOut) -> Result<Host, Stop> {
-        let core = MessageEnd::new(alloc, Side::Host, &plan.line, 0, 1 << 32)?;
-        out.notes.push(host_started_note(alloc)?)?;
-        Ok(Host {
-            plan: *plan,
-            comms: HostComms::first(plan),
-            core,
-        })
+        Ok(Host::begun(alloc, plan, out)?)
     }
 
     // It has no disk.
@@ -127,6 +125,7 @@ impl End for Host {
         let plan = self.plan;
         self.core.restart(alloc, Side::Host, &plan.line);
         self.comms = HostComms::first(&plan);
+        self.delivered = None;
         out.notes.push(host_started_note(alloc)?)?;
         Ok(())
     }
@@ -141,7 +140,7 @@ impl End for Host {
         requires now { now < 2 ^ 62 }
         requires input { MayTake HostCommandFits (input_of input) }
         requires out { IsEmpty out.old }
-        ensures step { Leaves [] (host_machine.act self.old (input_of input.entry) now) self.new out.new result }
+        ensures step { Leaves [] false (host_machine.act self.old (input_of input.entry) now) self.new out.new result }
         ensures ends { EndsBy host_machine [] (most_calls + 1) (most_calls + 1) false
             (λ choice now. host_machine.restart self.new now) out.new result }
     {
@@ -172,8 +171,42 @@ impl Host {
         self.core.deadline()
     }
 
+    // A start with all numbers, from 0 on, and its note.
+    pub(crate) fn begun(alloc: Global, plan: &HostPlan, out: &mut StepOut) -> Result<Host, NoMemory>
+        requires plan { HostPlanFits plan.now }
+        requires out { IsEmpty out.old }
+        ensures begun { IfOk result (λ host. HasGone
+            (Goes (bare_started (end_plan plan.now) (first_own plan.now) (numbers_from 0 (2 ^ 32))))
+            host
+            out.new) }
+        ensures line { out.new.line ≡ out.old.line }
+    {
+        let host = Host::with_numbers(alloc, plan, 0, 1 << 32)?;
+        out.notes.push(host_started_note(alloc)?)?;
+        Ok(host)
+    }
+
+    // A host at its start that has so many numbers, from the first on.
+    pub(crate) fn with_numbers(
+        alloc: Global,
+        plan: &HostPlan,
+        first: u32,
+        count: u64,
+    ) -> Result<Host, NoMemory>
+        requires plan { HostPlanFits plan.now }
+        requires numbers { first + count ≤ 2 ^ 32 }
+        ensures { IfOk result (λ host. at_start plan.now (numbers_from first count) ≡ host) }
+    {
+        Ok(Host {
+            plan: *plan,
+            comms: HostComms::first(plan),
+            delivered: None,
+            core: MessageEnd::new(alloc, Side::Host, &plan.line, first, count)?,
+        })
+    }
+
     // One step. Where it stops nothing is sent.
-    fn step_on(
+    pub(crate) fn step_on(
         &mut self,
         alloc: Global,
         input: NodeInput<'_, HostCommand>,
@@ -183,7 +216,7 @@ impl Host {
         requires now { now < 2 ^ 62 }
         requires input { MayTake HostCommandFits (input_of input) }
         requires out { IsEmpty out.old }
-        ensures { Leaves [] (host_machine.act self.old (input_of input.entry) now) self.new out.new result }
+        ensures { Leaves [] false (host_machine.act self.old (input_of input.entry) now) self.new out.new result }
     {
         match self.act(alloc, input, now, out) {
             Ok(()) => Ok(()),
@@ -221,6 +254,7 @@ impl Host {
         ensures takes { Takes (ticks now self.old.own self.old.core) self.old out.old self.new out.new result }
         ensures at_most { array_vec_len out.new.line ≤ array_vec_len out.old.line + 257 }
     {
+        self.delivered = None;
         match self.core.tick(now, out) {
             Some(header) => self.break_off(alloc, &header, out),
             None => Ok(()),
@@ -291,7 +325,7 @@ impl Host {
         match self.core.take(alloc, byte, now, out) {
             Ok(Took::Nothing) => Ok(()),
             Ok(Took::Failed(header)) => self.break_off(alloc, &header, out),
-            Ok(Took::Came(header, flow)) => self.judge(alloc, &header, &flow, out),
+            Ok(Took::Came(header, flow)) => self.judge(alloc, &header, flow, out),
             Err(stop) => Err(stop),
         }
     }
@@ -301,16 +335,20 @@ impl Host {
         &mut self,
         alloc: Global,
         header: &Header,
-        flow: &Flow,
+        flow: Flow,
         out: &mut StepOut,
     ) -> Result<(), Stop>
         ensures takes { Takes
-            (judges self.old.own self.old.core header.now flow.now)
+            (judges self.old.own self.old.core header.now flow)
             self.old out.old self.new out.new result }
         ensures line { out.new.line ≡ out.old.line }
     {
         match flow {
-            Flow::Whole(message, _) => self.heed(alloc, header, message, out),
+            Flow::Whole(message, _) => {
+                let heeded = self.heed(alloc, header, &message, out);
+                self.delivered = Some(message);
+                heeded
+            }
             Flow::Unexpected | Flow::TooLong | Flow::Crowded => {
                 match self.core.give_up(alloc, header, out) {
                     Ok(_) => Ok(()),

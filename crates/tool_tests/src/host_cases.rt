@@ -12,7 +12,7 @@ use message_end::End;
 use message_flow::{NodeInput, StepOut};
 use std::alloc::Global;
 
-const PLAN: HostPlan = HostPlan {
+pub(crate) const PLAN: HostPlan = HostPlan {
     line: LinePlan {
         device: 0,
         times: Times {
@@ -51,7 +51,7 @@ pub(crate) const EOT: &[u8] = &[0x04];
 
 pub(crate) const ACK: &[u8] = &[0x06];
 
-fn nothing_yet(alloc: Global) -> StepOut
+pub(crate) fn nothing_yet(alloc: Global) -> StepOut
     ensures { IsEmpty result }
 {
     StepOut {
@@ -60,7 +60,7 @@ fn nothing_yet(alloc: Global) -> StepOut
     }
 }
 
-fn is_out(out: &StepOut, line: &[u8], notes: &[&[u8]]) -> bool {
+pub(crate) fn is_out(out: &StepOut, line: &[u8], notes: &[&[u8]]) -> bool {
     out.line.as_slice() == line
         && out.notes.len() == notes.len()
         && notes
@@ -140,7 +140,7 @@ pub(crate) fn runs(alloc: Global, cases: &[Case]) -> bool {
         return false;
     }
     let mut out = nothing_yet(alloc);
-    let Ok(mut host) = Host::start(alloc, &PLAN, (), &mut out) else {
+    let Ok(mut host) = Host::start(alloc, PLAN, 0, &mut out) else {
         return false;
     };
     for case in cases {

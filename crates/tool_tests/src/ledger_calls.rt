@@ -112,6 +112,7 @@ fn aside(stopped: Result<(), Stop>) -> Result<&'static [u8], NoMemory> {
     match stopped {
         Ok(()) => Ok(b""),
         Err(Stop::NumbersSpent) => Ok(b"!"),
+        Err(Stop::Full) => Ok(b"full"),
         Err(Stop::DiskFailed) => Ok(b"disk"),
         Err(Stop::NoMemory) => Err(NoMemory),
     }

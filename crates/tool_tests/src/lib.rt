@@ -4,6 +4,8 @@
 #[cfg(test)]
 mod end_commands;
 #[cfg(test)]
+mod host_calls;
+#[cfg(test)]
 mod host_cases;
 #[cfg(test)]
 mod host_comms;

@@ -18,7 +18,7 @@ returns-in_default-clause-came g c =
 pub returns-clause-came : goal.returns-clause-came
 returns-clause-came g c =
     let start = host_start c.args.plan.now in
-    let is = start_is start _ _ c.in-Ok.ensures.start in
+    let is = start_is start _ _ c.in-Ok.ensures in
     let run = c.run_started.ensures.runs tt start is.0 (is.1 ∙ sym c.as_slice.ensures) in
     was_run c.args.plan.now c.args.polls _ _ _ c.args.script.now.lines c.run_started.result c.in-Ok.host
     c.run_started.new.end.host none_asked run.0 is.0 c.outcome_of_ending.ensures run.2

@@ -1,6 +1,6 @@
 -- The equipment that is going makes the step. One that has stopped isn't known, so its step owes nothing.
 
-use Rattle.std.proofs.Common.{ap, sym, subst, ◌∙◌, Option}
+use Rattle.std.proofs.Common.{ap, false, sym, subst, ◌∙◌, Option}
 use Rattle.message_end.specs.Ends.{Leaves, Uses, input_of, none_asked}
 use Rattle.equipment_node.specs.Held.{Held}
 use Rattle.end_run.specs.Counts.{StepCounts}
@@ -19,7 +19,7 @@ pub returns-in-Some-clause-step : goal.returns-in-Some-clause-step
 returns-in-Some-clause-step g c known =
     under g.D.Disk c.args.self.now.going c.in-Some.equipment
     (λ (o : Option (Held _)).
-    Leaves (linked_machine.stops (linked_view g.D.Disk o) (input_of c.args.input) c.args.now)
+    Leaves (linked_machine.stops (linked_view g.D.Disk o) (input_of c.args.input) c.args.now) false
     (linked_machine.act (linked_view g.D.Disk o) (input_of c.args.input) c.args.now)
     (linked_view g.D.Disk c.step_with.new.self.going) c.step_with.new.out c.step_with.result)
     (sym c.take.ensures.value ∙ c.in-Some.is) c.step_with.ensures.step known

@@ -12,7 +12,7 @@ returns-clause-end c =
     stays_always c.args.self.now.host (input_of c.args.input) c.args.now c.step.new.out after c.step.result
 
 pub returns-clause-room : goal.returns-clause-room
-returns-clause-room c = uses_no_disk _ _ _ c.step.result c.step.ensures.step
+returns-clause-room c = uses_no_disk _ _ _ _ c.step.result c.step.ensures.step
 
 pub returns-clause-device : goal.returns-clause-device
-returns-clause-device c = counts_no_disk _ _ _ c.step.result c.step.ensures.step
+returns-clause-device c = counts_no_disk _ _ _ _ c.step.result c.step.ensures.step

@@ -7,13 +7,18 @@ use Rattle.message_end.specs.Calls.{took_at}
 use Rattle.message_end.specs.Core.Command.{Take}
 use Rattle.message_end.specs.Parts.{Takes, on_the_way}
 use Rattle.message_end.proofs.Parts.{after-take}
+use Rattle.host_node.specs.Calls.{HostNode}
 use Rattle.host_node.specs.Host.{HostOwn, brings, takes}
-use Rattle.host_node.proofs.Turned.{HostNode, leads_so, node}
+use Rattle.host_node.proofs.Turned.{leads_so, node}
 use Rattle.host_node.proofs.host.Host.take.Goals as goal
 
 pub returns-in-Ok-Failed-clause-takes : goal.returns-in-Ok-Failed-clause-takes
 returns-in-Ok-Failed-clause-takes c =
-    let own : HostOwn = record { plan = c.self.inside.plan; comms = c.self.inside.comms } in
+    let own : HostOwn = record {
+      plan = c.self.inside.plan;
+      comms = c.self.inside.comms;
+      delivered = c.self.inside.delivered;
+    } in
     let core = c.self.inside.core in
     subst
     (λ (s : HostNode).
@@ -34,7 +39,11 @@ returns-in-Ok-Failed-clause-takes c =
 
 pub returns-in-Ok-Came-clause-takes : goal.returns-in-Ok-Came-clause-takes
 returns-in-Ok-Came-clause-takes c =
-    let own : HostOwn = record { plan = c.self.inside.plan; comms = c.self.inside.comms } in
+    let own : HostOwn = record {
+      plan = c.self.inside.plan;
+      comms = c.self.inside.comms;
+      delivered = c.self.inside.delivered;
+    } in
     let core = c.self.inside.core in
     subst
     (λ (s : HostNode).
