@@ -15,16 +15,23 @@ if not os.path.exists(PROGRAM):
 
 def seconds(words, path, runs=7, status=0):
     """The best time of some runs that end with this status, their output thrown away."""
-    best = None
-    for _ in range(runs):
-        with open(path, "rb") as file:
-            start = time.perf_counter()
-            ran = subprocess.run(words, stdin=file, stdout=subprocess.DEVNULL, stderr=subprocess.DEVNULL)
-            took = time.perf_counter() - start
-        if ran.returncode != status:
-            sys.exit(f"{words} ended with {ran.returncode}")
-        best = took if best is None else min(best, took)
-    return best
+    return by_turns([words], path, runs, status)[0]
+
+
+def by_turns(commands, path, runs=7, status=0):
+    """The best time of each of these, which are run by turns, so that what else goes on comes to all of them."""
+    taken = [[once(words, path, status) for words in commands] for _ in range(runs)]
+    return [min(times) for times in zip(*taken)]
+
+
+def once(words, path, status):
+    with open(path, "rb") as file:
+        start = time.perf_counter()
+        ran = subprocess.run(words, stdin=file, stdout=subprocess.DEVNULL, stderr=subprocess.DEVNULL)
+        took = time.perf_counter() - start
+    if ran.returncode != status:
+        sys.exit(f"{words} ended with {ran.returncode}")
+    return took
 
 
 def peak(words, path):
