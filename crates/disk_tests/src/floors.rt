@@ -1,9 +1,10 @@
-//! `spool_slots`: the floor of a spool file, below which no message stands. It rises to the next number at once, and the
-//! slots below it stay open until a put comes to them.
+//! `spool_slots`: the floor of a spool file, below which no message stands. It rises to the next number at once, and
+//! the slots below it stay open until a put comes to them.
 
 use crate::slot_file::{filled, put, refuses, with_bytes};
 use disk_base::{CutChoice, Disk, DiskAnswer, MemDisk, settle};
-use spool_slots::{NotSpool, Raw, Recovering, Spool};
+use spool_file::NotSpool;
+use spool_slots::{Raw, Recovering, Spool};
 use std::alloc::Global;
 use std::test::Fail;
 
@@ -29,7 +30,8 @@ fn holds(spool: &Spool<MemDisk>, len: u32, first: u64) -> bool {
 // on.
 type Stop = (u32, CutChoice, u32, u64);
 
-// A look at the gate of the floor's cell, the other copy, a sync; and the gate, whose lowest bit says which copy counts.
+// A look at the gate of the floor's cell, the other copy, a sync; and the gate, whose lowest bit says which copy
+// counts.
 static CLEARING: [Stop; 12] = [
     (1, CutChoice::New, 3, 0),
     (2, CutChoice::New, 3, 0),

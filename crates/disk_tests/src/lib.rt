@@ -2,6 +2,8 @@
 #![tactic(auto)]
 
 #[cfg(test)]
+mod each_call;
+#[cfg(test)]
 mod floors;
 #[cfg(test)]
 mod list_works;
@@ -16,4 +18,4 @@ mod slot_file;
 #[cfg(test)]
 mod spool_list;
 #[cfg(test)]
-mod spool_rule;
+mod spooled_streams;

@@ -36,8 +36,8 @@ static LATER: [Stop; 10] = [
     (17, 3, (0, 4), (1, 4)),
 ];
 
-// In one slot that holds a message: a drop and a put, and then a purge and a put. The first put looks at a gate that the
-// drop has closed, and the second at one that the purge has left open.
+// In one slot that holds a message: a drop and a put, and then a purge and a put. The first put looks at a gate that
+// the drop has closed, and the second at one that the purge has left open.
 static OVERWRITING: [Stop; 7] = [
     (1, 0, (1, 0), (0, 0)),
     (2, 0, (1, 0), (0, 0)),

@@ -2,8 +2,8 @@
 
 use disk_base::{MemDisk, settle};
 use gl_base::MemSink;
+use spool_file::NotSpool;
 use spool_show::{SpoolEnd, format_spool, show_spool};
-use spool_slots::NotSpool;
 use std::alloc::Global;
 
 // The front of a file of three slots.

@@ -3,7 +3,8 @@
 ghost use Rattle.std.specs.Prelude.{◌≤◌, length};
 
 use disk_base::{CutChoice, Disk, MemDisk, settle};
-use spool_slots::{Dropping, NotSpool, Raw, Recovering, Reserving, Spool, Staging, Stored};
+use spool_file::NotSpool;
+use spool_slots::{Dropping, Raw, Recovering, Reserving, Spool, Staging, Stored};
 use std::alloc::Global;
 use std::test::Fail;
 

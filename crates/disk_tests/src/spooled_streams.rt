@@ -1,8 +1,8 @@
-//! `gem_spool`: each S2F43 of a table with its S2F44, and the primaries that are covered behind it.
+//! `spool_rule`: each S2F43 of a table with its S2F44, and the primaries that are covered behind it.
 
-use gem_spool::{RuleEntry, SpoolRule};
 use gl_base::{NoMemory, Row};
 use secs_items::{Item, encode_into};
+use spool_rule::{RuleEntry, SpoolRule};
 use std::alloc::Global;
 use std::test::Fail;
 
