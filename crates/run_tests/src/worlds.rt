@@ -4,7 +4,6 @@ use crate::replay_and_make::{FIRST_MESSAGE, behind_first};
 use equipment_node::EquipmentEnd;
 use equipment_tables::{EquipmentPlan, HostPlan};
 use gem_remote::RemotePlan;
-use gem_spool::RuleEntry;
 use gem_states::ControlState;
 use gem_vars::{VariablePlan, VarsPlan};
 use gl_base::{MemSink, Row};
@@ -14,6 +13,7 @@ use line_schedule::read_schedule;
 use line_world::{Plans, RunEnd, World, make, run};
 use message_end::End;
 use secs_items::Item;
+use spool_rule::RuleEntry;
 use std::alloc::Global;
 use std::test::Fail;
 
