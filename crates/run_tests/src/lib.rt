@@ -3,6 +3,10 @@
 #![tactic(auto)]
 
 #[cfg(test)]
+mod crowded_tool;
+#[cfg(test)]
+mod failing_calls;
+#[cfg(test)]
 mod faults_and_usage;
 #[cfg(test)]
 mod host_runs;

@@ -261,11 +261,11 @@ fn the_peer_closes_in_the_middle_of_a_frame(rt: HostRuntime) -> Result<(), Fail>
 type Storing = (u32, End<'static>, &'static str);
 
 /// Without a second try, so that T2 makes the spool active.
-const ONE_TRY: &[u8] = b"[line]\nrty = 0";
+pub(crate) const ONE_TRY: &[u8] = b"[line]\nrty = 0";
 
-const STORES: &[u8] = b"10001 terminal 0 <A \"x\">";
+pub(crate) const STORES: &[u8] = b"10001 terminal 0 <A \"x\">";
 
-const STORED: &str = "0 E start len=0 base=0\n0 E comms WAIT-CRA\n\
+pub(crate) const STORED: &str = "0 E start len=0 base=0\n0 E comms WAIT-CRA\n\
     0 E sent S1F13 W 00000000 0102410747454D4C494E45410131\n0 E tx 05\n\
     10000 E failed S1F13 W 00000000\n10000 E comms WAIT-DELAY\n10000 E spool ACTIVE\n\
     10001 E storing 0 S10F1 W\n10001 E stored 0\n10001 E closed\n";
