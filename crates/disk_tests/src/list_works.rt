@@ -86,7 +86,7 @@ fn carried(
             function: 11,
             body,
         },
-        Work::DropOldest,
+        Work::DropOldest { slots: 1 },
         Work::Purge,
         Work::Put {
             stream: 5,
@@ -112,7 +112,7 @@ fn overwritten(
         return None;
     }
     let works = [
-        Work::DropOldest,
+        Work::DropOldest { slots: 1 },
         Work::Put {
             stream: 6,
             function: 11,

@@ -23,6 +23,8 @@ use Rattle.trace_log.specs.Text.{note_of}
 use Rattle.message_end.specs.Ends.{IsEmpty}
 use Rattle.message_end.specs.Parts.{Node}
 use Rattle.spool_ledger.specs.Ledger.{LedgerView, new_ledger}
+use Rattle.spool_ledger.proofs.Keeping.{long-ones, sum-ones}
+use Rattle.std.specs.Prelude.{replicate, sum}
 use Rattle.equipment_tables.specs.declared.plan.EquipmentPlan.{EquipmentPlan}
 use Rattle.equipment_tables.specs.Plan.{EquipmentPlanFits}
 use Rattle.equipment_node.specs.declared.equipment.Starting.{Starting}
@@ -53,7 +55,12 @@ pub new-ready :
 new-ready plan fits g base even node is =
     subst (λ (n : Node OwnView Kind). IsReady g.spool n) (sym is)
     (record {
-      count = ap (λ (n : ℕ). record { slots = g.spool.slots; next = n; len = g.spool.len }) even;
+      count =
+          ap (λ (n : ℕ). record { slots = g.spool.slots; next = n; len = g.spool.len })
+          (even ∙ ap (λ (n : ℕ). g.spool.first + n) (sym (sum-ones g.spool.len)))
+          ∙ ap
+          (λ (n : ℕ). record { slots = g.spool.slots; next = g.spool.first + sum (replicate g.spool.len 1); len = n })
+          (sym (long-ones g.spool.len));
       sound = record {
         plan = plan;
         fits = fits;
@@ -152,10 +159,10 @@ module _ {D : Type 0} (members : disk.Ghosts D) (plan : EquipmentPlan) (g : GemS
               (record {
                 stands =
                     subst
-                    (λ (n : ℕ). Stands members h.spool (record { next = n; file = with_mark_moved st.file })) next-is
-                    marked;
+                    (λ (n : ℕ). Stands members h.spool (record { next = n; file = with_mark_moved st.file }))
+                    (next-is ∙ ap (λ (n : ℕ). first_in st.file + n) (sym (sum-ones (length st.file.list)))) marked;
                 owes = refl;
-                len = refl;
+                len = sym (long-ones (length st.file.list));
                 slots_are = refl;
               });
           told =

@@ -39,8 +39,8 @@ same-spent same = cc
 pub same-count :
     (old new : LedgerView) → new.slots ≡ old.slots → new.stood ≡ old.stood → stood_count new ≡ stood_count old
 same-count old new slots stood =
-    ap (λ (n : ℕ). record { slots = n; next = new.stood.first + new.stood.len; len = new.stood.len }) slots
-    ∙ ap (λ (st : Stand). record { slots = old.slots; next = st.first + st.len; len = st.len }) stood
+    ap (λ (n : ℕ). record { slots = n; next = new.stood.next; len = new.stood.len }) slots
+    ∙ ap (λ (st : Stand). record { slots = old.slots; next = st.next; len = st.len }) stood
 
 module _ (input : Input ToolCommand) (now : ℕ) (old mid : Node OwnView Kind) (out middle : StepOut) (empty : IsEmpty out)
     (sound : IsSoundOwn old.own)

@@ -92,7 +92,7 @@ module _ {D : Type 0} (members : disk.Ghosts D) where
   work-same : (g h : GemSpool D) (one : Work) → Does members g one (Ok h) → Same g.spool.disk h.spool.disk
   work-same g h (work.Put stream function body) does =
       let both = does.1 in same_then both.1.0.same_disk both.2.0.disk.same_disk
-  work-same g h work.DropOldest does = does.0.0.disk.same_disk
+  work-same g h (work.DropOldest slots) does = does.0.0.disk.same_disk
   work-same g h work.Purge does = cleared-same g.spool h.spool does.0
 
   work-failed-same :
@@ -100,7 +100,7 @@ module _ {D : Type 0} (members : disk.Ghosts D) where
   work-failed-same g spent (work.Put stream function body) (put, inl staged) = staged.0.same_disk
   work-failed-same g spent (work.Put stream function body) (put, inr (u, staged, sealed)) =
       same_then staged.0.same_disk sealed.0.disk.same_disk
-  work-failed-same g spent work.DropOldest does = does.0.disk.same_disk
+  work-failed-same g spent (work.DropOldest slots) does = does.0.disk.same_disk
   work-failed-same g spent work.Purge does = does.1.0.same_disk
 
   works-same : (works : List Work) (g h : GemSpool D) → DoesAll members g works h → Same g.spool.disk h.spool.disk

@@ -1,6 +1,6 @@
 -- That the parts behind the works come to the end of a step.
 use Rattle.std.proofs.Common.{◌≡◌, refl, sym, ap, subst, ◌∙◌, arith, ℕ, ◌+◌, ◌<◌, ◌≤◌, ◌%◌, List, [], ◌∷◌, length, Option, Some, None}
-use Rattle.std.specs.Prelude.{Result, Ok, Err}
+use Rattle.std.specs.Prelude.{Result, Ok, Err, sum}
 use Rattle.std.specs.List.{slice_get}
 use Rattle.std.specs.Option.{option_map}
 use Rattle.disk_base.specs.Story.{Story}
@@ -57,13 +57,13 @@ still-standing :
     (s : EquipmentView) (node : Node OwnView Kind) → HasRested s.node.own.ledger node.own.ledger
     → standing_in s ≡ standing_in (with_node s node)
 still-standing s node rested =
-    ap (λ (n : ℕ). record { next = n + s.node.own.ledger.len; file = s.file }) (sym rested.first)
-    ∙ ap (λ (n : ℕ). record { next = node.own.ledger.first + n; file = s.file }) (sym rested.len)
+    ap (λ (n : ℕ). record { next = n + sum s.node.own.ledger.sizes; file = s.file }) (sym rested.first)
+    ∙ ap (λ (sizes : List ℕ). record { next = node.own.ledger.first + sum sizes; file = s.file }) (sym rested.sizes)
 
 abbrev stand_of : ℕ → ℕ → Stand
-stand_of first len = record { first = first; len = len }
+stand_of next len = record { next = next; len = len }
 
-owes-none : (v : LedgerView) → stand_of v.first v.len ≡ v.stood → [] ≡ v.works → carried_out v ≡ v
+owes-none : (v : LedgerView) → stand_of (next_of v) (length v.sizes) ≡ v.stood → [] ≡ v.works → carried_out v ≡ v
 owes-none v stood works =
     ap (λ (st : Stand). record v { stood = st; works = [] }) stood
     ∙ ap (λ (all : List Work). record v { stood = v.stood; works = all }) works
@@ -76,11 +76,11 @@ module _ {D : Type 0} (members : disk.Ghosts D) where
     stands = subst (λ (st : Standing). Stands members v st) (still-standing s node rested) clear.stands;
     owes =
         owes-none node.own.ledger
-        (ap (λ (n : ℕ). stand_of n node.own.ledger.len) rested.first
-        ∙ ap (λ (n : ℕ). stand_of s.node.own.ledger.first n) rested.len
+        (ap (λ (n : ℕ). stand_of (n + sum node.own.ledger.sizes) (length node.own.ledger.sizes)) rested.first
+        ∙ ap (λ (sizes : List ℕ). stand_of (s.node.own.ledger.first + sum sizes) (length sizes)) rested.sizes
         ∙ ap (λ (l : LedgerView). l.stood) clear.owes ∙ sym rested.stood)
         (ap (λ (l : LedgerView). l.works) clear.owes ∙ sym rested.works);
-    len = clear.len ∙ sym rested.len;
+    len = clear.len ∙ ap (λ (sizes : List ℕ). length sizes) (sym rested.sizes);
     slots_are = clear.slots_are ∙ sym rested.slots;
   }
 

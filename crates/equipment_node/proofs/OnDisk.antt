@@ -100,7 +100,7 @@ module _ (st : Standing) (ledger : LedgerView) (same : count_in st ≡ stood_cou
         made : ℕ → SpoolFile → Standing
         made next file = record { next = next; file = file }
 
-    pub settled-long : length (settled_file ledger st.file).list ≡ ledger.len
+    pub settled-long : length (settled_file ledger st.file).list ≡ length ledger.sizes
     settled-long =
         ap (λ (x : Standing). length x.file.list) (sym settled-standing) ∙ ap (λ (c : Count). c.len) counts
 

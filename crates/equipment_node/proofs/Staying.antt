@@ -29,7 +29,7 @@ pub record HasRested (old new : LedgerView) : Type 0 where
   pub slots : new.slots ≡ old.slots
   pub stood : new.stood ≡ old.stood
   pub first : new.first ≡ old.first
-  pub len : new.len ≡ old.len
+  pub sizes : new.sizes ≡ old.sizes
   pub works : new.works ≡ old.works
 
 rested-then : (a b c : LedgerView) → HasRested a b → HasRested b c → HasRested a c
@@ -37,15 +37,15 @@ rested-then a b c first second = record {
   slots = second.slots ∙ first.slots;
   stood = second.stood ∙ first.stood;
   first = second.first ∙ first.first;
-  len = second.len ∙ first.len;
+  sizes = second.sizes ∙ first.sizes;
   works = second.works ∙ first.works;
 }
 
 same-rests : (v : LedgerView) → HasRested v v
-same-rests v = record { slots = refl; stood = refl; first = refl; len = refl; works = refl }
+same-rests v = record { slots = refl; stood = refl; first = refl; sizes = refl; works = refl }
 
 unload-rests : (unload : Option Unload) (v : LedgerView) → HasRested v (with_unload unload v)
-unload-rests unload v = record { slots = refl; stood = refl; first = refl; len = refl; works = refl }
+unload-rests unload v = record { slots = refl; stood = refl; first = refl; sizes = refl; works = refl }
 
 crowded-rests : (crowded : Bool) (own : OwnView)
     → HasRested own.ledger (if crowded then unloaded_own own else own).ledger
@@ -105,7 +105,7 @@ ending-rests : (own : OwnView) (e : EndView Kind) → HasRested own.ledger (end_
 ending-rests own e = go (is_communicating own && own.ledger.is_active && is_done own.ledger)
   where
     go : (ends : Bool) → HasRested own.ledger (if ends then changed false own.ledger else quiet own.ledger).next
-    go true = record { slots = refl; stood = refl; first = refl; len = refl; works = refl }
+    go true = record { slots = refl; stood = refl; first = refl; sizes = refl; works = refl }
     go false = same-rests own.ledger
 
 abbrev AllRest : List ToolPart → Type 0

@@ -385,7 +385,7 @@ module _ {D : Type 0} (members : disk.Ghosts D) where
         (sym is) called
 
 -- it is asked for only where there is one
-some-left : (most : ℕ) (v : LedgerView) (n : ℕ) → next_number most v ≡ Some n → 0 < v.len
+some-left : (most : ℕ) (v : LedgerView) (n : ℕ) → next_number most v ≡ Some n → 0 < length v.sizes
 some-left most v n some = go v.unload some
   where
     goes-on : (none over : Bool) → (if none && not over then Some v.first else None) ≡ Some n → over ≡ false
@@ -401,11 +401,11 @@ some-left most v n some = go v.unload some
     above zero is = absurd (cc)
     above (suc len) is = omega arith
 
-    go : (unload : Option Unload) → number_next most v unload ≡ Some n → 0 < v.len
+    go : (unload : Option Unload) → number_next most v unload ≡ Some n → 0 < length v.sizes
     go None is = absurd (cc)
     go (Some unload) is =
         let not_over = goes-on (is_none unload.tried) (is_over most v unload) is in
-        above v.len (left (v.len == 0) (nat_lt 0 most && nat_le most unload.confirmed) not_over)
+        above (length v.sizes) (left (length v.sizes == 0) (nat_lt 0 most && nat_le most unload.confirmed) not_over)
 
 pub some-asked :
     {D : Type 0} (members : disk.Ghosts D) (v : SpoolView D) (t : Step EquipmentView Happening) (n : ℕ)

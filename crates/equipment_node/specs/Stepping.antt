@@ -44,7 +44,7 @@ pub record IsMade (s : EquipmentView) : Type 0 where
 pub record IsClear {D : Type 0} (members : disk.Ghosts D) (v : SpoolView D) (s : EquipmentView) : Type 0 where
   pub stands : Stands members v (standing_in s)
   pub owes : carried_out s.node.own.ledger ≡ s.node.own.ledger
-  pub len : length s.file.list ≡ s.node.own.ledger.len
+  pub len : length s.file.list ≡ length s.node.own.ledger.sizes
   pub slots_are : s.file.slots ≡ s.node.own.ledger.slots
 
 pub record IsOn {D : Type 0} (members : disk.Ghosts D) (v : SpoolView D) (s : EquipmentView) : Type 0 where

@@ -259,7 +259,9 @@ fn start_with<D: Disk>(
     ensures line { out.new.line ≡ out.old.line }
 {
     let count = spool.count();
-    let ledger = Ledger::new(alloc, count.slots, spool.first(), count.len);
+    let Ok(ledger) = Ledger::new(alloc, count.slots, spool.first(), count.len) else {
+        return Err(Starting::NoMemory(spool.retire()));
+    };
     match Tool::start_on(alloc, plan, ledger, base, out) {
         Ok(tool) => Ok(Equipment { tool, spool }),
         Err(NoMemory) => Err(Starting::NoMemory(spool.retire())),

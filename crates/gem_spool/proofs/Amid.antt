@@ -99,12 +99,12 @@ module _ {D : Type 0} (members : disk.Ghosts D) (v : SpoolView D) (st : Standing
           inr (inr (subst (StandsFor image) (put_file members v st stream function body stands s told) left))
 
   pub drop_amid : HoldsThrough (members.told v.disk) after (IsSameOr dropped_in) →
-      GoesThrough s after (IsAmid st work.DropOldest)
+      GoesThrough s after (IsAmid st (work.DropOldest 1))
   drop_amid images =
       let one = images s told in (
         one.0,
         one.1,
-        through_more s one.0 (IsSameOr dropped_in s.now.bytes) (IsAmid st work.DropOldest)
+        through_more s one.0 (IsSameOr dropped_in s.now.bytes) (IsAmid st (work.DropOldest 1))
             (λ image. ⊎_elim (λ (left : StandsFor image (file_in s.now.bytes)). inl (as_told (λ f. f) image left))
             (λ (left : StandsFor image (dropped_in s.now.bytes)). inr
             (subst (StandsFor image) (drop_file members v st stands s told) left))) one.2,
@@ -143,7 +143,7 @@ module _ {D : Type 0} (members : disk.Ghosts D) where
       GoesThrough s (members.told h.spool.disk) (IsAmid st one)
   does_amid g h (work.Put stream function body) st stands done s told =
       put_amid members g.spool st stands (members.told h.spool.disk) s told stream function body done.0.images
-  does_amid g h work.DropOldest st stands done s told =
+  does_amid g h (work.DropOldest slots) st stands done s told =
       drop_amid members g.spool st stands (members.told h.spool.disk) s told done.0.0.images
   does_amid g h work.Purge st stands done s told = go done.0
     where
@@ -159,7 +159,7 @@ module _ {D : Type 0} (members : disk.Ghosts D) where
       GoesThrough s (members.told spent.disk) (IsAmid st one)
   fails_amid g (work.Put stream function body) spent st stands failed s told =
       put_amid members g.spool st stands (members.told spent.disk) s told stream function body failed.0.images
-  fails_amid g work.DropOldest spent st stands failed s told =
+  fails_amid g (work.DropOldest slots) spent st stands failed s told =
       drop_amid members g.spool st stands (members.told spent.disk) s told failed.0.images
   fails_amid g work.Purge spent st stands failed s told =
       purge_amid members g.spool st stands (members.told spent.disk) s told failed.0 failed.1.0.images

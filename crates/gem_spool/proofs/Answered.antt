@@ -27,7 +27,7 @@ module _ {D : Type 0} (members : disk.Ghosts D) (g h : GemSpool D) where
 
   -- the oldest of some messages leaves
   pub dropped : (number : ℕ) (was : Bool) → number ≡ g.spool.first → 0 < g.spool.len →
-      ConfirmsIn members g number h was → Does members g work.DropOldest (Ok h)
+      ConfirmsIn members g number h was → Does members g (work.DropOldest 1) (Ok h)
   dropped number true is some confirmed = (confirmed.3, confirmed.2)
   dropped number false is some confirmed =
       absurd (⊎_elim (λ (none : g.spool.len ≡ 0). omega (arith, none, some))

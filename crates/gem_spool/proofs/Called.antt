@@ -104,7 +104,7 @@ module _ {D : Type 0} (members : disk.Ghosts D) where
       put_makes stream function body put =
           subst (λ (calls : List DiskCall). Makes v.disk after calls said) (put_same stream function body put) put.makes
 
-      drop_makes : HasDropped members v after said → Makes v.disk after (calls_in (updates_of st work.DropOldest)) said
+      drop_makes : HasDropped members v after said → Makes v.disk after (calls_in (updates_of st (work.DropOldest 1))) said
       drop_makes drop =
           let first : v.first ≡ oldest_in (count_of v) = let even = drop.even in omega (arith, even) in
           subst (λ (calls : List DiskCall). Makes v.disk after calls said)
@@ -128,7 +128,7 @@ module _ {D : Type 0} (members : disk.Ghosts D) where
       Makes g.spool.disk h.spool.disk (calls_in (updates_of st one)) Done
   does_makes g h (work.Put stream function body) st stands s told done =
       put_makes g.spool h.spool.disk Done st stands s told stream function body done.0
-  does_makes g h work.DropOldest st stands s told done =
+  does_makes g h (work.DropOldest slots) st stands s told done =
       drop_makes g.spool h.spool.disk Done st stands s told done.0.0
   does_makes g h work.Purge st stands s told done = go done.0
     where
@@ -146,7 +146,7 @@ module _ {D : Type 0} (members : disk.Ghosts D) where
       Makes g.spool.disk spent.disk (calls_in (updates_of st one)) Failed
   fails_makes g (work.Put stream function body) spent st stands s told failed =
       put_makes g.spool spent.disk Failed st stands s told stream function body failed.0
-  fails_makes g work.DropOldest spent st stands s told failed =
+  fails_makes g (work.DropOldest slots) spent st stands s told failed =
       drop_makes g.spool spent.disk Failed st stands s told failed.0
   fails_makes g work.Purge spent st stands s told failed = purge_makes g.spool spent.disk Failed st stands s told failed
 
@@ -199,7 +199,7 @@ module _ {D : Type 0} (members : disk.Ghosts D) where
             (sym (at_replicate (v.next % v.slots) put.stale))
             ∙ sym (put_calls_are by stream function body)
 
-    drop_cost : HasDropped members v after said → HasCost v work.DropOldest after said
+    drop_cost : HasDropped members v after said → HasCost v (work.DropOldest 1) after said
     drop_cost drop = record {
       by = found false v;
       count = found_count false v;
@@ -239,7 +239,7 @@ module _ {D : Type 0} (members : disk.Ghosts D) where
       HasCost g.spool one h.spool.disk Done
   does_cost g h (work.Put stream function body) done =
       put_cost g.spool h.spool.disk Done stream function body done.0
-  does_cost g h work.DropOldest done = drop_cost g.spool h.spool.disk Done done.0.0
+  does_cost g h (work.DropOldest slots) done = drop_cost g.spool h.spool.disk Done done.0.0
   does_cost g h work.Purge done = go done.0
     where
       go : Clears members g.spool (Ok h.spool) → HasCost g.spool work.Purge h.spool.disk Done
@@ -255,5 +255,5 @@ module _ {D : Type 0} (members : disk.Ghosts D) where
       HasCost g.spool one spent.disk Failed
   fails_cost g (work.Put stream function body) spent failed =
       put_cost g.spool spent.disk Failed stream function body failed.0
-  fails_cost g work.DropOldest spent failed = drop_cost g.spool spent.disk Failed failed.0
+  fails_cost g (work.DropOldest slots) spent failed = drop_cost g.spool spent.disk Failed failed.0
   fails_cost g work.Purge spent failed = purge_cost g.spool spent.disk Failed failed

@@ -41,8 +41,8 @@ same_len : (next : ℕ) (list : List Message) (one : Work) →
     len_after (length list) one ≡ length (list_after next list one)
 same_len next list (work.Put stream function body) =
     omega (arith, length-append list (record { number = next; stream = stream; function = function; body = body } ∷ []))
-same_len next [] work.DropOldest = refl
-same_len next (message ∷ list) work.DropOldest = omega arith
+same_len next [] (work.DropOldest slots) = refl
+same_len next (message ∷ list) (work.DropOldest slots) = omega arith
 same_len next list work.Purge = refl
 
 -- the numbers of a list that works change are changed likewise
@@ -113,7 +113,7 @@ module _ {D : Type 0} (members : disk.Ghosts D) where
       let view = ap (λ (x : GemSpool D). x.spool) done.3 in
       count_is h.spool g.spool.slots (g.spool.next + 1) (g.spool.len + 1) (ap (λ (x : SpoolView D). x.slots) view)
       (ap (λ (x : SpoolView D). x.next) view) (ap (λ (x : SpoolView D). x.len) view)
-  does_count g h work.DropOldest done =
+  does_count g h (work.DropOldest slots) done =
       let view = done.0.1 in
       count_is h.spool g.spool.slots g.spool.next (g.spool.len - 1) (ap (λ (x : SpoolView D). x.slots) view)
       (ap (λ (x : SpoolView D). x.next) view) (ap (λ (x : SpoolView D). x.len) view)
@@ -123,12 +123,12 @@ module _ {D : Type 0} (members : disk.Ghosts D) where
 
   pub does_mark : (g h : GemSpool D) (one : Work) → Does members g one (Ok h) → h.spool.mark ≡ g.spool.mark
   does_mark g h (work.Put stream function body) done = ap (λ (x : GemSpool D). x.spool.mark) done.3
-  does_mark g h work.DropOldest done = ap (λ (x : SpoolView D). x.mark) done.0.1
+  does_mark g h (work.DropOldest slots) done = ap (λ (x : SpoolView D). x.mark) done.0.1
   does_mark g h work.Purge done = (clear_view g.spool h.spool done.0).mark
 
   pub does_active : (g h : GemSpool D) (one : Work) → Does members g one (Ok h) → h.active ≡ g.active
   does_active g h (work.Put stream function body) done = ap (λ (x : GemSpool D). x.active) done.3
-  does_active g h work.DropOldest done = done.1
+  does_active g h (work.DropOldest slots) done = done.1
   does_active g h work.Purge done = done.1
 
   -- a disk that tells its bytes told them before
@@ -137,7 +137,7 @@ module _ {D : Type 0} (members : disk.Ghosts D) where
   does_told g h (work.Put stream function body) done t told =
       let mid = done.1 in
       put_told members g.spool stream function body mid.0 h.spool mid.1 mid.2 t told
-  does_told g h work.DropOldest done t told = drop_told members g.spool h.spool done.0 t told
+  does_told g h (work.DropOldest slots) done t told = drop_told members g.spool h.spool done.0 t told
   does_told g h work.Purge done t told = clear_told members g.spool h.spool done.0 t told
 
   pub does_list : (g h : GemSpool D) (one : Work) → Does members g one (Ok h) → (list : List Message) →
@@ -145,7 +145,7 @@ module _ {D : Type 0} (members : disk.Ghosts D) where
   does_list g h (work.Put stream function body) done list has =
       let mid = done.1 in
       put_list members g.spool stream function body done.0.fits mid.0 h.spool mid.1 mid.2 list has
-  does_list g h work.DropOldest done list has = drop_list members g.spool h.spool done.0 list has
+  does_list g h (work.DropOldest slots) done list has = drop_list members g.spool h.spool done.0 list has
   does_list g h work.Purge done list has = clear_list members g.spool h.spool done.0
 
   pub next_count : (g h : GemSpool D) (one : Work) (st : Standing) → count_of g.spool ≡ count_in st →
@@ -174,7 +174,7 @@ module _ {D : Type 0} (members : disk.Ghosts D) where
       ∙ ap (λ (n : ℕ). file_after n st.file (work.Put stream function body)) (next_is v st stands)
 
   pub drop_file : (v : SpoolView D) (st : Standing) → Stands members v st → (s : Story) → members.told v.disk ≡ Some s →
-      dropped_in s.now.bytes ≡ (standing_after st work.DropOldest).file
+      dropped_in s.now.bytes ≡ (standing_after st (work.DropOldest 1)).file
   drop_file v st stands s told = ap without_first (sym (same_file v st stands s told))
 
   -- and the file without any, whose floor was moved
@@ -208,8 +208,8 @@ module _ {D : Type 0} (members : disk.Ghosts D) where
       let old = does_told g h (work.Put stream function body) done t told in
       subst (λ (f : SpoolFile). Ends t f) (put_file g.spool st stream function body stands old.0 old.1)
       (done.4 old.0 t old.1 told)
-  does_file g h work.DropOldest st stands done t told =
-      let old = does_told g h work.DropOldest done t told in
+  does_file g h (work.DropOldest slots) st stands done t told =
+      let old = does_told g h (work.DropOldest slots) done t told in
       subst (λ (f : SpoolFile). Ends t f) (drop_file g.spool st stands old.0 old.1) (done.0.2 old.0 t old.1 told)
   does_file g h work.Purge st stands done t told = go done.0
     where
@@ -235,7 +235,7 @@ module _ {D : Type 0} (members : disk.Ghosts D) where
       (subst (λ (n : ℕ). IsChainFrom g.spool.first n (st.file.list ++ message ∷ [])) (sym next)
       (subst (λ (n : ℕ). IsChainFrom g.spool.first (g.spool.next + n) (st.file.list ++ message ∷ [])) width_is
       (chain_last g.spool.first g.spool.next st.file.list message stands.chain (sym (next_is g.spool st stands)))))
-  does_chain g h work.DropOldest st stands done =
+  does_chain g h (work.DropOldest slots) st stands done =
       let view = done.0.1 in
       let first : h.spool.first ≡ g.spool.first + 1 = ap (λ (x : SpoolView D). x.first) view in
       let next : h.spool.next ≡ g.spool.next = ap (λ (x : SpoolView D). x.next) view in
@@ -254,7 +254,7 @@ module _ {D : Type 0} (members : disk.Ghosts D) where
       let next : h.spool.next ≡ g.spool.next + 1 = ap (λ (x : SpoolView D). x.next) view in
       let len : h.spool.len ≡ g.spool.len + 1 = ap (λ (x : SpoolView D). x.len) view in
       omega (arith, first, next, len, even)
-  does_even g h work.DropOldest even done =
+  does_even g h (work.DropOldest slots) even done =
       let view = done.0.1 in
       let first : h.spool.first ≡ g.spool.first + 1 = ap (λ (x : SpoolView D). x.first) view in
       let next : h.spool.next ≡ g.spool.next = ap (λ (x : SpoolView D). x.next) view in

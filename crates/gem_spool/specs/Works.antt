@@ -35,20 +35,20 @@ use Rattle.spool_slots.specs.declared.states.Spent.{Spent}
 -- the number that the next message gets
 abbrev pub next_after : ℕ → Work → ℕ
 next_after next (work.Put stream function body) = next + 1
-next_after next work.DropOldest = next
+next_after next (work.DropOldest slots) = next
 next_after next work.Purge = next
 
 -- how many messages there are
 abbrev pub len_after : ℕ → Work → ℕ
 len_after len (work.Put stream function body) = len + 1
-len_after len work.DropOldest = len - 1
+len_after len (work.DropOldest slots) = len - 1
 len_after len work.Purge = 0
 
 -- the list, where this is the next number
 abbrev pub list_after : ℕ → List Message → Work → List Message
 list_after next list (work.Put stream function body) =
     list ++ record { number = next; stream = stream; function = function; body = body } ∷ []
-list_after next list work.DropOldest = drop 1 list
+list_after next list (work.DropOldest slots) = drop 1 list
 list_after next list work.Purge = []
 
 abbrev pub count_after : Count → Work → Count
@@ -57,7 +57,7 @@ count_after c one = record { slots = c.slots; next = next_after c.next one; len 
 -- which slots are open: that of a message that is put, and no more that of one that leaves alone
 abbrev pub gates_after : ℕ → SpoolFile → Work → List Bool
 gates_after next file (work.Put stream function body) = set file.gates (next % file.slots) true
-gates_after next file work.DropOldest = set file.gates (first_of file.floor.value file.list % file.slots) false
+gates_after next file (work.DropOldest slots) = set file.gates (first_of file.floor.value file.list % file.slots) false
 gates_after next file work.Purge = file.gates
 
 -- where the list isn't empty, a purge moves the floor to the next number
@@ -67,7 +67,7 @@ floor_above next (message ∷ list) floor = with_value next floor
 
 abbrev pub floor_after : ℕ → SpoolFile → Work → Cell
 floor_after next file (work.Put stream function body) = file.floor
-floor_after next file work.DropOldest = file.floor
+floor_after next file (work.DropOldest slots) = file.floor
 floor_after next file work.Purge = floor_above next file.list file.floor
 
 abbrev pub file_after : ℕ → SpoolFile → Work → SpoolFile
@@ -90,7 +90,7 @@ standing_after_put answer.TooLong st stream function body = st
 standing_after_put answer.NumbersSpent st stream function body = st
 
 abbrev pub standing_after_confirm : Bool → Standing → Standing
-standing_after_confirm true st = standing_after st work.DropOldest
+standing_after_confirm true st = standing_after st (work.DropOldest 1)
 standing_after_confirm false st = st
 
 abbrev pub reserved : Standing → Standing
@@ -112,11 +112,11 @@ abbrev pub lists_after : ℕ → List Message → List Work → List Message
 lists_after next list [] = list
 lists_after next list (one ∷ works) = lists_after (next_after next one) (list_after next list one) works
 
--- a put finds room, and a drop a message
+-- a put finds room, and a drop a message, of which it frees the slots: each message takes one
 abbrev pub IsDue : Count → Work → Type 0
 IsDue c (work.Put stream function body) =
     (function % 2 ≡ 1) × (stream < 128) × (room_in c (length body) ≡ room.Fits)
-IsDue c work.DropOldest = 0 < c.len
+IsDue c (work.DropOldest slots) = (0 < c.len) × (slots ≡ 1)
 IsDue c work.Purge = Unit {0}
 
 -- each does so in its turn
@@ -129,8 +129,8 @@ AreDue c (one ∷ works) = IsDue c one × AreDue (count_after c one) works
 -- one of them was done, or its call failed as it says by itself
 abbrev pub Does : {D : Type 0} → disk.Ghosts D → GemSpool D → Work → Result (GemSpool D) (Spent D) → Type 0
 Does members g (work.Put stream function body) done = Stores members g stream function body done
-Does members g work.DropOldest (Ok h) = Drops members g.spool (Ok h.spool) × (h.active ≡ g.active)
-Does members g work.DropOldest (Err spent) = Drops members g.spool (Err (dropping.Failed spent))
+Does members g (work.DropOldest slots) (Ok h) = Drops members g.spool (Ok h.spool) × (h.active ≡ g.active)
+Does members g (work.DropOldest slots) (Err spent) = Drops members g.spool (Err (dropping.Failed spent))
 Does members g work.Purge done = PurgesAll members g done
 
 -- they were done one after the other
@@ -173,7 +173,8 @@ updates_of st (work.Put stream function body) =
     ∷ gated (writes (next_place st + 1) (parts_of st.next stream function body) ∷ syncs ∷ [])
     (opening (next_place st) (standing_after st (work.Put stream function body)))
     ∷ []
-updates_of st work.DropOldest = gated [] (closing (oldest_place st) (standing_after st work.DropOldest)) ∷ []
+updates_of st (work.DropOldest slots) =
+    gated [] (closing (oldest_place st) (standing_after st (work.DropOldest slots))) ∷ []
 updates_of st work.Purge = purge_updates st.file.list st
 
 -- how many calls of the disk a work makes, and how many bytes it writes

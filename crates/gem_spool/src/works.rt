@@ -21,8 +21,10 @@ pub enum Work {
         function: u8,
         body: Row<u8>,
     },
-    /// The oldest message leaves, as confirmed or overwritten.
-    DropOldest,
+    /// The oldest message leaves, as confirmed or overwritten, and frees so many slots.
+    DropOldest {
+        slots: u32,
+    },
     /// All messages leave at once.
     Purge,
 }
@@ -71,7 +73,7 @@ impl<D: Disk> GemSpool<D> {
                 };
                 self.with_due(&message)
             }
-            Work::DropOldest => self.without_oldest(),
+            Work::DropOldest { slots } => self.without_oldest(*slots),
             Work::Purge => self.purge(),
         }
     }
@@ -89,10 +91,10 @@ impl<D: Disk> GemSpool<D> {
         }
     }
 
-    // Takes the oldest message off.
-    fn without_oldest(self) -> Result<GemSpool<D>, Spent<D>>
-        requires some { IsDue (count_of self.spool) DropOldest }
-        ensures { Does D.Disk self DropOldest result }
+    // Takes the oldest message off, which frees so many slots.
+    fn without_oldest(self, slots: u32) -> Result<GemSpool<D>, Spent<D>>
+        requires some { IsDue (count_of self.spool) (DropOldest slots) }
+        ensures { Does D.Disk self (DropOldest slots) result }
     {
         let oldest = self.first();
         match self.confirm(oldest) {

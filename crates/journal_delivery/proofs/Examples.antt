@@ -159,7 +159,7 @@ put-in = (
   (
     record { message = report (65 ∷ []); is = refl },
     (
-      record { rest = record { none_stored = refl; none_leaves = refl }; above = λ one is. absurd is },
+      record { rest = record { none_stored = refl; none_leaves = refl }; above = λ one is. absurd is; room = refl },
       (record { missing = 0; stored = false; at_most = omega arith; is = refl }, tt),
     ),
   ),

@@ -6,11 +6,10 @@ use Rattle.spool_file.specs.Area.{first_of, messages_below, put_by_number, put_i
 use Rattle.spool_file.specs.File.{area_break, end_of, file_in, floor_in, slot_message, slot_stands, slots_in}
 use Rattle.spool_file.specs.File.{spool_break}
 use Rattle.spool_file.specs.Front.{front_break, front_in, slots_break, slots_of}
-use Rattle.spool_file.specs.Run.{IsRunFrom}
+use Rattle.spool_file.specs.Run.{IsChainFrom}
 use Rattle.spool_file.specs.Slot.{Message, slot_in, slot_place}
 use Rattle.spool_file.proofs.Areas.{Each}
 use Rattle.spool_file.proofs.Contents.{IsHeld, each_held}
-use Rattle.spool_file.proofs.Evens.{chain_run}
 use Rattle.spool_file.proofs.Firsts.{both_none}
 use Rattle.spool_file.proofs.Fronts.{IsFront, floor_is, front_of}
 use Rattle.spool_file.proofs.Gapless.{sound_kept}
@@ -84,10 +83,8 @@ module _ (bytes : List ℕ) (sound : spool_break bytes ≡ None) where
   low : floor_in bytes ≤ 2 ^ 63
   low = let same = floor_is bytes in let least = front.floor in omega (arith, same, least)
 
-  run : IsRunFrom (first_in (file_in bytes)) (file_in bytes).list
-  run =
-      chain_run (first_in (file_in bytes)) (end_of (floor_in bytes) (file_in bytes).list) (file_in bytes).list refl
-      (sound_kept (floor_in bytes) (slot_in bytes) (slots_in bytes) both.1).kept.chain
+  run : IsChainFrom (first_in (file_in bytes)) (end_of (floor_in bytes) (file_in bytes).list) (file_in bytes).list
+  run = (sound_kept (floor_in bytes) (slot_in bytes) (slots_in bytes) both.1).kept.chain
 
   no-more : length (file_in bytes).list ≤ slots_in bytes
   no-more = no-longer (slot_stands (floor_in bytes) (slot_in bytes)) (slot_message (slot_in bytes)) (slots_in bytes)

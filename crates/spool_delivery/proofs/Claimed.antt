@@ -8,7 +8,7 @@ use Rattle.trace_log.specs.declared.names.Cause.{Cause}
 use Rattle.trace_log.specs.declared.names.Cause.TheVariants as cause
 use Rattle.trace_log.specs.Log.{Entry}
 use Rattle.trace_log.specs.Names.{Spooled}
-use Rattle.spool_law.specs.Shelf.{Change, IsAtRest, IsFirst, MayChange, MayHaveGone, MayLeave, MayStore, Shelf, Policy, shelf_of}
+use Rattle.spool_law.specs.Shelf.{Change, IsAtRest, IsFirst, IsOverwrittenFor, MayChange, MayHaveGone, MayLeave, MayStore, Shelf, Policy, shelf_of}
 use Rattle.spool_law.specs.Shelf.Change.{Finds, HasGone, HasStored, Leaves, Other, Receives, Sends, Stores, Tries}
 use Rattle.spool_delivery.specs.Account.{Account, Put, Removal, Turn, account_of, counted, counts, folded, is_among, is_unconfirmed, turn_of, was_given_up}
 use Rattle.spool_delivery.specs.Account.Turn.{Changes, Quiet, Takes}
@@ -35,14 +35,15 @@ quiet-of shelf account tied rest = record {
   none_leaves = sym tied.leaving ∙ rest.none_leaves;
 }
 
-put-behind : (shelf : Shelf) (account : Account) (number : ℕ) → IsTied shelf account → MayStore shelf number
-    → IsPutBehind account number
-put-behind shelf account number tied may = record {
+put-behind : (policy : Policy) (shelf : Shelf) (account : Account) (number : ℕ) (message : Spooled)
+    → IsTied shelf account → MayStore policy shelf number message → IsPutBehind policy account number message
+put-behind policy shelf account number message tied may = record {
   quiet = quiet-of shelf account tied may.rest;
   above = λ one has.
       may.above (numbered one)
       (subst (λ (ss : List (ℕ × Spooled)). Has ss (numbered one)) (sym tied.stands)
       (has-map numbered account.standing one has));
+  room = subst (λ (ss : List (ℕ × Spooled)). policy.has_room ss message ≡ true) tied.stands may.room;
 }
 
 stored-put : (one : Option (ℕ × Spooled)) (account : Account) (number : ℕ) (message : Spooled)
@@ -90,9 +91,8 @@ leaves-first policy before number why room_for tied may taken =
         → (account_of before).standing ≡ put ∷ rest → HasCause policy before put why room_for
     of cause.Confirmed room_for may taken put rest first = (taken put rest first, may.cause.1)
     of cause.Purged room_for may taken put rest first = may.cause
-    of cause.Overwritten None may taken put rest first = absurd may.cause
-    of cause.Overwritten (Some message) may taken put rest first =
-        subst (λ (ss : List (ℕ × Spooled)). policy.overwrites (equipment_notes before) ss message ≡ true) tied.stands
+    of cause.Overwritten room_for may taken put rest first =
+        subst (λ (ss : List (ℕ × Spooled)). IsOverwrittenFor policy (equipment_notes before) ss room_for) tied.stands
         may.cause
 
 kept-change : (policy : Policy) (before : List Entry) (change : Change)
@@ -104,7 +104,7 @@ kept-change policy before (Finds found) tied may taken new =
 kept-change policy before (Leaves number why room_for) tied may taken new =
     leaves-first policy before number why room_for tied may taken
 kept-change policy before (Stores number message) tied may taken new =
-    put-behind (shelf_of (equipment_notes before)) (account_of before) number tied may
+    put-behind policy (shelf_of (equipment_notes before)) (account_of before) number message tied may
 kept-change policy before (HasStored number) tied may taken new =
     stored-put (shelf_of (equipment_notes before)).storing (account_of before) number may.message may.is tied.storing
 kept-change policy before (HasGone number) tied may taken new =

@@ -151,11 +151,15 @@ keeps-spool = (
             (
               tt,
               (
-                record { rest = record { none_stored = refl; none_leaves = refl }; above = above },
+                record { rest = record { none_stored = refl; none_leaves = refl }; above = above; room = refl },
                 (
                   record { message = report (65 ∷ []); is = refl },
                   (
-                    record { rest = record { none_stored = refl; none_leaves = refl }; above = λ one is. absurd is },
+                    record {
+                      rest = record { none_stored = refl; none_leaves = refl };
+                      above = λ one is. absurd is;
+                      room = refl;
+                    },
                     (
                       record { missing = 0; stored = false; at_most = omega arith; is = refl },
                       tt,
@@ -210,6 +214,9 @@ none-some x is = cc
 true-false : true ≡ false → ⊥
 true-false is = cc
 
+not-both : {test : Bool} → test ≡ true → test ≡ false → ⊥
+not-both is other = cc
+
 under-itself : (number : ℕ) → number < number → ⊥
 under-itself number is = omega (arith, is)
 
@@ -228,4 +235,7 @@ are-not-kept = record {
   goes_alone = λ policy kept. none-some kept.1.0.cause kept.1.0.is;
   names_none = λ policy kept. kept.0.cause;
   names_one = λ policy kept. some-none (report (66 ∷ [])) kept.0.cause.1;
+  has_room = λ policy has kept. not-both has kept.0.cause.full;
+  never_fits = λ policy never kept. not-both kept.0.cause.fits never;
+  stores_without = λ policy never kept. not-both kept.0.room never;
 }

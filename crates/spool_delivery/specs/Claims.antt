@@ -11,7 +11,7 @@ use Rattle.trace_log.specs.Delivered.{sends_like}
 use Rattle.trace_log.specs.Log.{Entry, Happening}
 use Rattle.trace_log.specs.Log.Entry.{Noted}
 use Rattle.trace_log.specs.Names.{Spooled}
-use Rattle.spool_law.specs.Shelf.{Carries, IsFoundOf, IsPurge, Policy, received_since}
+use Rattle.spool_law.specs.Shelf.{Carries, IsFoundOf, IsOverwrittenFor, IsPurge, Policy, received_since}
 use Rattle.spool_law.specs.Shelf.Change.{Finds, HasGone, HasStored, Leaves, Sends, Stores, Tries}
 use Rattle.spool_delivery.specs.Account.{Account, Put, Turn, account_of, counted, folded, tried_with, turn_of}
 use Rattle.spool_delivery.specs.Account.Turn.{Changes}
@@ -32,30 +32,29 @@ equipment_notes (entry ∷ before) = with_note_of entry (equipment_notes before)
 abbrev pub numbered : Put → ℕ × Spooled
 numbered put = (put.number, put.message)
 
--- what stands leaves no room for the message that is to be put, and may be overwritten for it
-abbrev pub WantsRoom : Policy → List Entry → Option Spooled → Type 0
-WantsRoom policy before None = ⊥
-WantsRoom policy before (Some message) =
-    policy.overwrites (equipment_notes before) (map numbered (account_of before).standing) message ≡ true
+abbrev pub stands_in : Account → List (ℕ × Spooled)
+stands_in account = map numbered account.standing
 
 -- a put leaves as confirmed only where the host has taken it (this profile); as purged only where the message that the
--- equipment has received last, in this start, asks for it, and as overwritten only where the message that is to be put
--- wants its room (SEMI E30, spooling)
+-- equipment has received last, in this start, asks for it, and as overwritten only where the spool has no room for the
+-- message that is to be put, though it could be put, and may overwrite (SEMI E30, spooling)
 abbrev pub HasCause : Policy → List Entry → Put → Cause → Option Spooled → Type 0
 HasCause policy before put cause.Confirmed room_for = Has (account_of before).taken put × (room_for ≡ None)
 HasCause policy before put cause.Purged room_for =
     IsPurge policy (received_since (equipment_notes before)) × (room_for ≡ None)
-HasCause policy before put cause.Overwritten room_for = WantsRoom policy before room_for
+HasCause policy before put cause.Overwritten room_for =
+    IsOverwrittenFor policy (equipment_notes before) (stands_in (account_of before)) room_for
 
 -- nothing is being stored, and nothing is leaving
 pub record IsQuiet (account : Account) : Type 0 where
   pub none_stored : account.storing ≡ None
   pub none_leaves : account.leaving ≡ None
 
--- a message is put behind all others, with a number above theirs
-pub record IsPutBehind (account : Account) (number : ℕ) : Type 0 where
+-- a message is put behind all others, with a number above theirs, where there is room beside them
+pub record IsPutBehind (policy : Policy) (account : Account) (number : ℕ) (message : Spooled) : Type 0 where
   pub quiet : IsQuiet account
   pub above : (one : Put) → Has account.standing one → one.number < number
+  pub room : policy.has_room (stands_in account) message ≡ true
 
 -- the one that is being stored has this number
 pub record IsStored (account : Account) (number : ℕ) : Type 0 where
@@ -106,8 +105,8 @@ CarriesPut account sent =
 abbrev pub IsKeptBy : Policy → Turn → List Entry → Type 0
 IsKeptBy policy (Changes (Finds found)) before =
     let account = account_of before in
-    IsFoundOf (map numbered account.standing) (option_map numbered account.storing) account.leaving found
-IsKeptBy policy (Changes (Stores number message)) before = IsPutBehind (account_of before) number
+    IsFoundOf (stands_in account) (option_map numbered account.storing) account.leaving found
+IsKeptBy policy (Changes (Stores number message)) before = IsPutBehind policy (account_of before) number message
 IsKeptBy policy (Changes (HasStored number)) before = IsStored (account_of before) number
 IsKeptBy policy (Changes (Leaves number why room_for)) before = LeavesFirst policy before number why room_for
 IsKeptBy policy (Changes (HasGone number)) before = IsGone (account_of before) number
@@ -117,9 +116,9 @@ IsKeptBy policy _ before = Unit {0}
 
 -- each start of the equipment finds what stood, in order; but messages that were leaving may be missing from the front,
 -- and the one that was being stored may stand last; so the first start finds nothing. What is stored goes behind all
--- others, with a number above theirs; what leaves is the first that stands, or all by a purge, with a cause; and
--- nothing is stored or leaves while another one is stored or leaving. What is tried is the first that stands, with new
--- system bytes, and goes out as it was put (this profile)
+-- others, with a number above theirs, and has room beside them; what leaves is the first that stands, or all by a
+-- purge, with a cause; and nothing is stored or leaves while another one is stored or leaving. What is tried is the
+-- first that stands, with new system bytes, and goes out as it was put (this profile)
 abbrev pub SpoolIsKept : Policy → List Entry → Type 0
 SpoolIsKept policy [] = Unit {0}
 SpoolIsKept policy (entry ∷ before) = IsKeptBy policy (turn_of entry) before × SpoolIsKept policy before

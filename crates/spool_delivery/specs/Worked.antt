@@ -232,6 +232,17 @@ confirmed_for_one =
     ∷ at_equipment (Leaving 0 cause.Confirmed (Some (report (66 ∷ []))))
     ∷ [])
 
+-- a report is overwritten for another one, and one is put in
+abbrev pub overwritten_for_one : List Entry
+overwritten_for_one =
+    reverse (at_equipment (EquipmentStarted [] 0)
+    ∷ put_in 0 (65 ∷ [])
+    ++ at_equipment (Leaving 0 cause.Overwritten (Some (report (66 ∷ []))))
+    ∷ [])
+
+abbrev pub one_put : List Entry
+one_put = reverse (at_equipment (EquipmentStarted [] 0) ∷ at_equipment (Storing 0 (report (65 ∷ []))) ∷ [])
+
 -- whatever purges or may overwrite
 pub record AreNotKept : Type 0 where
   pub tries_again : (policy : Policy) → SpoolIsKept policy tried_again → ⊥
@@ -240,6 +251,13 @@ pub record AreNotKept : Type 0 where
   pub goes_alone : (policy : Policy) → SpoolIsKept policy gone_alone → ⊥
   pub names_none : (policy : Policy) → SpoolIsKept policy overwritten_for_none → ⊥
   pub names_one : (policy : Policy) → SpoolIsKept policy confirmed_for_one → ⊥
+  -- where there is room beside the first report, where there never could be any, and where there is none
+  pub has_room :
+      (policy : Policy) → policy.has_room found_first (report (66 ∷ [])) ≡ true → SpoolIsKept policy overwritten_for_one
+      → ⊥
+  pub never_fits :
+      (policy : Policy) → policy.has_room [] (report (66 ∷ [])) ≡ false → SpoolIsKept policy overwritten_for_one → ⊥
+  pub stores_without : (policy : Policy) → policy.has_room [] (report (65 ∷ [])) ≡ false → SpoolIsKept policy one_put → ⊥
 
 -- ---- logs that break the order
 
@@ -309,11 +327,12 @@ unload =
 abbrev pub unload_moves : List Move
 unload_moves = moves_after unload []
 
--- S6F23 purges, and nothing is overwritten
+-- S6F23 purges, there is always room, and nothing is overwritten
 abbrev pub plain_policy : Policy
 plain_policy = record {
   purges = λ message. message.function == 23;
-  overwrites = λ notes stands message. false;
+  has_room = λ stands message. true;
+  overwrites = λ notes. false;
 }
 
 pub record UnloadsAfterLoss : Type 0 where

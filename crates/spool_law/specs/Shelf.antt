@@ -120,11 +120,12 @@ received_since (what ∷ before) = received_behind (change_of what) (received_si
 
 -- ---- the law of the notes
 
--- what makes room, told by other crates: that a request asks for the spool to be emptied; and that, after all that was
--- noted, these messages leave no room for another one and the oldest may be overwritten (SEMI E30, spooling)
+-- what is told by other crates: that a request asks for the spool to be emptied; that beside these messages there is
+-- room for another one; and that, after all that was noted, the oldest may be overwritten (SEMI E30, spooling)
 pub record Policy : Type 0 where
   pub purges : Message → Bool
-  pub overwrites : List Happening → List (ℕ × Spooled) → Spooled → Bool
+  pub has_room : List (ℕ × Spooled) → Spooled → Bool
+  pub overwrites : List Happening → Bool
 
 -- nothing is being stored, and nothing is leaving
 pub record IsAtRest (shelf : Shelf) : Type 0 where
@@ -151,10 +152,11 @@ pub record IsFoundOf {X : Type 0}
   pub at_most : missing ≤ leaving_of leaving (length stands)
   pub is : found ≡ drop missing stands ++ stored_if stored storing
 
--- a message is put behind all others, with a number above theirs
-pub record MayStore (shelf : Shelf) (number : ℕ) : Type 0 where
+-- a message is put behind all others, with a number above theirs, where there is room beside them
+pub record MayStore (policy : Policy) (shelf : Shelf) (number : ℕ) (message : Spooled) : Type 0 where
   pub rest : IsAtRest shelf
   pub above : (one : ℕ × Spooled) → Has shelf.stands one → one.0 < number
+  pub room : policy.has_room shelf.stands message ≡ true
 
 pub record MayHaveStored (shelf : Shelf) (number : ℕ) : Type 0 where
   pub message : Spooled
@@ -174,17 +176,25 @@ abbrev pub IsPurge : Policy → List Message → Type 0
 IsPurge policy [] = ⊥
 IsPurge policy (newest ∷ before) = policy.purges newest ≡ true
 
--- what stands leaves no room for this message, and may be overwritten for it
-abbrev pub HasNoRoomFor : Policy → List Happening → Option Spooled → Type 0
-HasNoRoomFor policy notes None = ⊥
-HasNoRoomFor policy notes (Some message) = policy.overwrites notes (shelf_of notes).stands message ≡ true
+-- beside these messages there is no room for this one, and there would be if none of them stood; and the oldest may be
+-- overwritten
+pub record WantsRoom (policy : Policy) (notes : List Happening) (stands : List (ℕ × Spooled)) (message : Spooled)
+    : Type 0 where
+  pub full : policy.has_room stands message ≡ false
+  pub fits : policy.has_room [] message ≡ true
+  pub overwrites : policy.overwrites notes ≡ true
+
+abbrev pub IsOverwrittenFor : Policy → List Happening → List (ℕ × Spooled) → Option Spooled → Type 0
+IsOverwrittenFor policy notes stands None = ⊥
+IsOverwrittenFor policy notes stands (Some message) = WantsRoom policy notes stands message
 
 -- room is made for a message by an overwriting alone
 abbrev pub MayLeaveFor : Policy → List Happening → Cause → Option Spooled → Type 0
 MayLeaveFor policy notes cause.Confirmed room_for =
     IsConfirmed (shelf_of notes) (received_since notes) × (room_for ≡ None)
 MayLeaveFor policy notes cause.Purged room_for = IsPurge policy (received_since notes) × (room_for ≡ None)
-MayLeaveFor policy notes cause.Overwritten room_for = HasNoRoomFor policy notes room_for
+MayLeaveFor policy notes cause.Overwritten room_for =
+    IsOverwrittenFor policy notes (shelf_of notes).stands room_for
 
 -- the first message leaves, or a purge that names the first one takes all
 pub record MayLeave (policy : Policy) (notes : List Happening) (number : ℕ) (why : Cause) (room_for : Option Spooled)
@@ -214,7 +224,7 @@ MaySendTried told sent =
 abbrev pub MayChange : Policy → List Happening → Change → Type 0
 MayChange policy notes (Finds found) =
     let shelf = shelf_of notes in IsFoundOf shelf.stands shelf.storing shelf.leaving found
-MayChange policy notes (Stores number message) = MayStore (shelf_of notes) number
+MayChange policy notes (Stores number message) = MayStore policy (shelf_of notes) number message
 MayChange policy notes (HasStored number) = MayHaveStored (shelf_of notes) number
 MayChange policy notes (Leaves number why room_for) = MayLeave policy notes number why room_for
 MayChange policy notes (HasGone number) = MayHaveGone (shelf_of notes) number

@@ -1,5 +1,5 @@
 -- When the spool is active (SEMI E30, spooling).
-use Rattle.std.specs.Prelude.{ℕ, Bool, true, false, not, ◌==◌, ◌&&◌, is_none, is_some, [], ◌∷◌, if◌then◌else◌}
+use Rattle.std.specs.Prelude.{ℕ, Bool, true, false, not, ◌==◌, ◌&&◌, length, is_none, is_some, [], ◌∷◌, if◌then◌else◌}
 use Rattle.trace_log.specs.Log.Happening.{Spool}
 use Rattle.spool_ledger.specs.Ledger.{Booked, LedgerView, quiet}
 
@@ -12,7 +12,7 @@ activated enabled v = if enabled && not v.is_active then changed true v else qui
 
 -- there is nothing left to be active for
 abbrev pub is_done : LedgerView → Bool
-is_done v = v.len == 0 && is_none v.unload
+is_done v = length v.sizes == 0 && is_none v.unload
 
 -- it becomes inactive where the host is there and nothing is left (this profile)
 abbrev pub rested : Bool → LedgerView → Booked

@@ -1,14 +1,13 @@
 -- What holds of the spool's ledger after every list of calls.
-use Rattle.std.specs.Prelude.{◌≡◌, ℕ, zero, suc, Bool, not, ◌+◌, ◌%◌, ◌<◌, ◌≤◌, ◌==◌, List, [], ◌∷◌, ◌++◌, length, filter, filter_map, fold, All, Option, Some, None, unwrap_or}
+use Rattle.std.specs.Prelude.{◌≡◌, ℕ, Bool, not, ◌+◌, ◌%◌, ◌<◌, ◌≤◌, ◌==◌, List, [], ◌∷◌, ◌++◌, length, sum, filter, filter_map, fold, All, Option, Some, None, unwrap_or}
 use Rattle.gem_spool.specs.declared.spool.Room.TheVariants as room
 use Rattle.trace_log.specs.Log.{Happening}
-use Rattle.trace_log.specs.Log.Happening.{Leaving, Stored}
-use Rattle.trace_log.specs.Names.{Spooled}
-use Rattle.trace_log.specs.declared.names.Cause.{Cause}
+use Rattle.trace_log.specs.Log.Happening.{Leaving, Stored, Storing, TooLong}
+use Rattle.trace_log.specs.Names.{Spooled, spooled_name}
 use Rattle.trace_log.specs.declared.names.Cause.TheVariants.{Confirmed, Overwritten, Purged}
 use Rattle.spool_ledger.specs.Activity.{activated, rested}
-use Rattle.spool_ledger.specs.Ledger.{Booked, IsLedger, LedgerView, and_then, carried_out, next_of, quiet, room_for}
-use Rattle.spool_ledger.specs.Storing.{all_out, oldest_out, stored}
+use Rattle.spool_ledger.specs.Ledger.{Booked, IsLedger, LedgerView, and_then, carried_out, next_of, quiet, room_for, size_of}
+use Rattle.spool_ledger.specs.Storing.{all_out, stored, unstored, with_room}
 use Rattle.spool_ledger.specs.Unloading.{after_next, confirmed, fresh, let_go, taken_up, with_each, with_unload}
 
 -- ---- lists of calls
@@ -52,13 +51,13 @@ MayCall _ = Unit {0}
 
 -- ---- the list by what was noted
 
--- so many numbers that rise by one
-abbrev pub numbers_from : ℕ → ℕ → List ℕ
-numbers_from first zero = []
-numbers_from first (suc len) = first ∷ numbers_from (first + 1) len
+-- each number is behind those that the message before it takes
+abbrev pub numbers_from : ℕ → (sizes : List ℕ) → List ℕ
+numbers_from first [] = []
+numbers_from first (size ∷ sizes) = first ∷ numbers_from (first + size) sizes
 
 abbrev pub numbers_of : LedgerView → List ℕ
-numbers_of v = numbers_from v.first v.len
+numbers_of v = numbers_from v.first v.sizes
 
 abbrev pub without : ℕ → List ℕ → List ℕ
 without number = filter (λ other. not (number == other))
@@ -82,6 +81,14 @@ given_by _ = None
 abbrev pub given_in : List Happening → List ℕ
 given_in = filter_map given_by
 
+-- and the sizes of these messages
+abbrev pub size_by : Happening → Option ℕ
+size_by (Storing number message) = Some (size_of message)
+size_by _ = None
+
+abbrev pub sizes_in : List Happening → List ℕ
+sizes_in = filter_map size_by
+
 -- ---- the laws
 
 -- whatever is called: the works are due and come to the list as it is decided; the list that was noted is that one; the
@@ -90,13 +97,17 @@ given_in = filter_map given_by
 pub record HasCome (v : LedgerView) (booked : Booked) : Type 0 where
   pub is : IsLedger booked.next
   pub list : listed (numbers_of v) booked.lines ≡ numbers_of booked.next
-  pub rise : given_in booked.lines ≡ numbers_from (next_of v) (length (given_in booked.lines))
-  pub next : next_of booked.next ≡ next_of v + length (given_in booked.lines)
+  pub rise : given_in booked.lines ≡ numbers_from (next_of v) (sizes_in booked.lines)
+  pub next : next_of booked.next ≡ next_of v + sum (sizes_in booked.lines)
   pub no_lower : v.first ≤ booked.next.first
 
 pub record LedgersAreLawful : Type 0 where
   pub keeps : (v : LedgerView) (calls : List Call) → IsLedger v → All MayCall calls → HasCome v (all_bring calls v)
-  -- behind the oldest there is room in a full spool, so that to ask again is to find room
+  -- in a full spool room is made for each message that isn't too long, so that to ask again is to find room
   pub makes_room :
-      (v : LedgerView) (cause : Cause) (for_one : Option Spooled) (long : ℕ) → IsLedger v → room_for v long ≡ room.Full
-      → room_for (oldest_out cause for_one v).next long ≡ room.Fits
+      (v : LedgerView) (message : Spooled) → IsLedger v → room_for v (length message.body) ≡ room.Full
+      → room_for (with_room message v).next (length message.body) ≡ room.Fits
+  -- and nothing is removed for one that could never be put
+  pub keeps_all :
+      (v : LedgerView) (message : Spooled) (overwrites : Bool) → v.slots < size_of message
+      → stored overwrites message v ≡ Some (unstored (TooLong (spooled_name message)) v)

@@ -3,3 +3,4 @@ pub mod Laws
 pub mod Ledger
 pub mod Storing
 pub mod Unloading
+pub mod Worked

@@ -1,5 +1,5 @@
 -- How messages come to the spool and leave it.
-use Rattle.std.specs.Prelude.{◌≡◌, ℕ, Bool, true, false, ◌+◌, ◌-◌, ◌==◌, List, [], ◌∷◌, ◌++◌, length, Option, Some, None, Result, Ok, Err, if◌then◌else◌}
+use Rattle.std.specs.Prelude.{◌≡◌, ℕ, Bool, true, false, ◌+◌, ◌==◌, List, [], ◌∷◌, ◌++◌, drop, length, Option, Some, None, Result, Ok, Err, if◌then◌else◌}
 use Rattle.std.specs.Option.{option_map}
 use Rattle.gem_spool.specs.declared.spool.Room.{Room}
 use Rattle.gem_spool.specs.declared.spool.Room.TheVariants as room
@@ -14,7 +14,7 @@ use Rattle.trace_log.specs.Log.Happening.{Discarded, Gone, Leaving, Stored, Stor
 use Rattle.trace_log.specs.Names.{Spooled, spooled_name}
 use Rattle.trace_log.specs.declared.names.Cause.{Cause}
 use Rattle.trace_log.specs.declared.names.Cause.TheVariants.{Overwritten, Purged}
-use Rattle.spool_ledger.specs.Ledger.{Booked, LedgerView, and_then, next_of, owed, quiet, room_for}
+use Rattle.spool_ledger.specs.Ledger.{Booked, LedgerView, and_then, is_full, next_of, owed, quiet, room_for, size_of}
 
 -- a primary of this stream and function
 abbrev pub spooled : ℕ → ℕ → List ℕ → Spooled
@@ -24,37 +24,57 @@ spooled stream function body = record { stream = stream; function = function; bo
 abbrev pub put : Spooled → LedgerView → Booked
 put message v = record {
   next = record v {
-    len = v.len + 1;
+    sizes = v.sizes ++ size_of message ∷ [];
     works = owed v (work.Put message.stream message.function message.body);
   };
   lines = Storing (next_of v) message ∷ Stored (next_of v) ∷ [];
 }
 
+-- how many slots the oldest takes
+abbrev pub oldest_of : List ℕ → ℕ
+oldest_of [] = 0
+oldest_of (size ∷ sizes) = size
+
 -- the oldest message leaves, perhaps to make room for another
 abbrev pub oldest_out : Cause → Option Spooled → LedgerView → Booked
 oldest_out cause for_one v = record {
-  next = record v { first = v.first + 1; len = v.len - 1; works = owed v work.DropOldest };
+  next = record v {
+    first = v.first + oldest_of v.sizes;
+    sizes = drop 1 v.sizes;
+    works = owed v (work.DropOldest (oldest_of v.sizes));
+  };
   lines = Leaving v.first cause for_one ∷ Gone v.first ∷ [];
 }
 
 -- all messages leave; of an empty list nothing is noted
 abbrev pub all_out : LedgerView → Booked
 all_out v =
-    if v.len == 0 then quiet v
+    if length v.sizes == 0 then quiet v
     else record {
-      next = record v { first = v.first + v.len; len = 0; works = owed v work.Purge };
+      next = record v { first = next_of v; sizes = []; works = owed v work.Purge };
       lines = Leaving v.first Purged None ∷ Gone v.first ∷ [];
     }
+
+-- the oldest ones leave, one by one, as long as there is no room for a message of this size
+abbrev pub room_made : (size : ℕ) → Option Spooled → List ℕ → LedgerView → Booked
+room_made size for_one [] v = quiet v
+room_made size for_one (oldest ∷ sizes) v =
+    if is_full v.slots v.sizes size
+    then and_then (oldest_out Overwritten for_one v) (room_made size for_one sizes)
+    else quiet v
+
+abbrev pub with_room : Spooled → LedgerView → Booked
+with_room message v = room_made (size_of message) (Some message) v.sizes v
 
 -- a message that isn't put
 abbrev pub unstored : Happening → LedgerView → Booked
 unstored what v = record { next = v; lines = what ∷ [] }
 
--- a message is stored where there is room; in a full spool it takes the place of the oldest, where the spool is to be
--- overwritten (SEMI E30, OverWriteSpool); None where it would get no number
+-- a message is stored where there is room; in a full spool it takes the place of the oldest ones, where the spool is to
+-- be overwritten (SEMI E30, OverWriteSpool); None where it would get no number
 abbrev pub stored_by : Room → Bool → Spooled → LedgerView → Option Booked
 stored_by room.Fits overwrites message v = Some (put message v)
-stored_by room.Full true message v = Some (and_then (oldest_out Overwritten (Some message) v) (put message))
+stored_by room.Full true message v = Some (and_then (with_room message v) (put message))
 stored_by room.Full false message v = Some (unstored (Discarded (spooled_name message)) v)
 stored_by room.TooLong overwrites message v = Some (unstored (TooLong (spooled_name message)) v)
 stored_by room.NumbersSpent overwrites message v = None

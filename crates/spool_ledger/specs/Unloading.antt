@@ -1,5 +1,5 @@
 -- How an unload goes over the list (SEMI E30, spooling).
-use Rattle.std.specs.Prelude.{ℕ, Bool, false, not, ◌+◌, ◌==◌, ◌&&◌, ◌||◌, nat_le, nat_lt, is_none, List, [], ◌∷◌, Option, Some, None, if◌then◌else◌}
+use Rattle.std.specs.Prelude.{ℕ, Bool, false, not, ◌+◌, ◌==◌, ◌&&◌, ◌||◌, nat_le, nat_lt, is_none, List, [], ◌∷◌, length, Option, Some, None, if◌then◌else◌}
 use Rattle.std.specs.Option.{option_and_then, option_map}
 use Rattle.trace_log.specs.Log.Happening.{Try}
 use Rattle.trace_log.specs.declared.names.Cause.TheVariants.{Confirmed}
@@ -60,7 +60,7 @@ counted unload = record { tried = None; confirmed = unload.confirmed + 1 }
 
 -- the message under way is the oldest of the list: it wasn't overwritten or purged
 abbrev pub is_oldest_tried : LedgerView → Bool
-is_oldest_tried v = nat_lt 0 v.len && tries v.first v.unload
+is_oldest_tried v = nat_lt 0 (length v.sizes) && tries v.first v.unload
 
 -- a reply confirms the message and removes it; where it has left already nothing is removed or counted
 abbrev pub confirmed : LedgerView → Booked
@@ -72,7 +72,7 @@ confirmed v =
 
 -- no message is left, or as many were confirmed as may be; 0 is no bound (SEMI E30, MaxSpoolTransmit)
 abbrev pub is_over : ℕ → LedgerView → Unload → Bool
-is_over most v unload = v.len == 0 || (nat_lt 0 most && nat_le most unload.confirmed)
+is_over most v unload = length v.sizes == 0 || (nat_lt 0 most && nat_le most unload.confirmed)
 
 -- the number of the message that is to be taken up next
 abbrev pub number_next : ℕ → LedgerView → Option Unload → Option ℕ

@@ -50,7 +50,7 @@ impl Ledger {
             (λ done. out.new.notes ≡ out.old.notes ++ printed (rested communicating self.old).lines) }
         ensures line { out.new.line ≡ out.old.line }
     {
-        if !communicating || !self.is_active || self.stand.len > 0 || self.unload.is_some() {
+        if !communicating || !self.is_active || self.len() > 0 || self.unload.is_some() {
             return Ok(());
         }
         out.notes.push(spool_note(alloc, false)?)?;

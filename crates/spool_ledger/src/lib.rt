@@ -6,10 +6,11 @@
 mod activity;
 mod laws;
 mod ledger;
+mod sizes;
 mod storing;
 mod unload;
 mod unloading;
 
-pub use laws::ledgers_are_lawful;
+pub use laws::{ledgers_are_lawful, worked_removals};
 pub use ledger::Ledger;
 pub use unload::WaitingText;

@@ -6,9 +6,9 @@ ghost use Rattle.message_end.specs.Ends.{printed};
 ghost use Rattle.trace_log.specs.Log.Happening.{Gone, Leaving};
 ghost use Rattle.trace_log.specs.Names.{Spooled};
 ghost use Rattle.spool_ledger.specs.Ledger.{confirmed_of, room_for};
-ghost use Rattle.spool_ledger.specs.Storing.{Books, all_out, oldest_out, put, spooled, stored};
+ghost use Rattle.spool_ledger.specs.Storing.{Books, all_out, oldest_out, put, room_made, spooled, stored};
 
-use crate::ledger::Ledger;
+use crate::ledger::{Ledger, size_of};
 use gem_spool::{Room, Work};
 use gl_base::{NoMemory, Row};
 use message_end::Stop;
@@ -20,8 +20,8 @@ use trace_log::{
 
 impl Ledger {
     /// A primary is to be stored. Where there is room it comes to the end of the list with the next number. In a full
-    /// spool it takes the oldest message's place where the spool `overwrites`, and is discarded where it doesn't. One
-    /// that is too long is noted.
+    /// spool the oldest messages leave, one by one, until there is room, where the spool `overwrites`; where it doesn't
+    /// the primary is discarded. One that is too long is noted, and removes none.
     ///
     /// `NumbersSpent` exactly where it isn't too long and the next number would be 2^63, and then nothing changes.
     pub fn store(
@@ -56,7 +56,7 @@ impl Ledger {
             }
             Room::Full => {
                 if overwrites {
-                    self.oldest_out(alloc, Cause::Overwritten, out)?;
+                    self.make_room(alloc, size_of(body.len()), out)?;
                     self.put(alloc, stream, function, body, out)?;
                     Ok(())
                 } else {
@@ -78,13 +78,14 @@ impl Ledger {
         ensures notes { IfOk result (λ done. out.new.notes ≡ out.old.notes ++ printed (all_out self.old).lines) }
         ensures line { out.new.line ≡ out.old.line }
     {
-        if self.stand.len == 0 {
+        if self.len() == 0 {
             return Ok(());
         }
-        note_leaving(alloc, self.stand.first, Cause::Purged, out)?;
+        let next = self.next();
+        note_leaving(alloc, self.first, Cause::Purged, out)?;
         self.works.push(Work::Purge)?;
-        self.stand.first += u64::from(self.stand.len);
-        self.stand.len = 0;
+        self.first = next;
+        self.sizes.clear();
         Ok(())
     }
 
@@ -106,15 +107,37 @@ impl Ledger {
         ensures line { out.new.line ≡ out.old.line }
     {
         let number = self.next();
+        let size = size_of(body.len());
         out.notes
             .push(storing_note(alloc, number, stream, function)?)?;
         out.notes.push(stored_note(alloc, number)?)?;
-        self.works.push(Work::Put {
+        self.sizes.push(size as u16)?;
+        let work = Work::Put {
             stream,
             function,
             body,
-        })?;
-        self.stand.len += 1;
+        };
+        if let Err(none) = self.works.push(work) {
+            self.sizes.drop_newest();
+            return Err(none);
+        }
+        Ok(())
+    }
+
+    // The oldest messages leave, one by one, until there is room for a message of this size.
+    fn make_room(&mut self, alloc: Global, size: u32, out: &mut StepOut) -> Result<(), NoMemory>
+        requires fits { size ≤ self.old.slots }
+        requires small { size ≤ 65535 }
+        ensures next { (for_one : Option Spooled) →
+            IfOk result (λ done. self.new ≡ (room_made size for_one self.old.sizes self.old).next) }
+        ensures notes { (for_one : Option Spooled) → IfOk result
+            (λ done. out.new.notes
+            ≡ out.old.notes ++ printed (room_made size for_one self.old.sizes self.old).lines) }
+        ensures line { out.new.line ≡ out.old.line }
+    {
+        'oldest: while self.is_full(size) {
+            self.oldest_out(alloc, Cause::Overwritten, out)?;
+        }
         Ok(())
     }
 
@@ -125,17 +148,17 @@ impl Ledger {
         cause: Cause,
         out: &mut StepOut,
     ) -> Result<(), NoMemory>
-        requires some { 0 < self.old.len }
+        requires some { 0 < length self.old.sizes }
         ensures next { IfOk result (λ done. self.new ≡ (oldest_out cause None self.old).next) }
         ensures notes { (for_one : Option Spooled) → IfOk result
             (λ done. out.new.notes ≡ out.old.notes ++ printed (oldest_out cause for_one self.old).lines) }
         ensures line { out.new.line ≡ out.old.line }
-        ensures confirmed { confirmed_of self.old.unload ≤ self.old.first }
+        ensures confirmed { IfOk result (λ done. confirmed_of self.new.unload < self.new.first) }
     {
-        note_leaving(alloc, self.stand.first, cause, out)?;
-        self.works.push(Work::DropOldest)?;
-        self.stand.first += 1;
-        self.stand.len -= 1;
+        note_leaving(alloc, self.first, cause, out)?;
+        let slots = self.sizes.drop_oldest();
+        self.works.push(Work::DropOldest { slots })?;
+        self.first += u64::from(slots);
         Ok(())
     }
 }

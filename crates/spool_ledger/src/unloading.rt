@@ -41,11 +41,11 @@ impl Ledger {
         if unload.tried.is_some() {
             return None;
         }
-        if self.stand.len == 0 || (most > 0 && unload.confirmed >= u64::from(most)) {
+        if self.len() == 0 || (most > 0 && unload.confirmed >= u64::from(most)) {
             self.unload = None;
             return None;
         }
-        Some(self.stand.first)
+        Some(self.first)
     }
 
     /// The message with this number was read, and goes out with these system bytes. It is under way then, with its text
@@ -100,7 +100,7 @@ impl Ledger {
     fn is_oldest_tried(&self) -> bool
         ensures { result ≡ is_oldest_tried self.now }
     {
-        self.stand.len > 0 && self.tries(self.stand.first)
+        self.len() > 0 && self.tries(self.first)
     }
 
     // Whether the message with this number is under way.

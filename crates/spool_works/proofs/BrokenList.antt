@@ -36,7 +36,7 @@ module _ {D : Type 0} (members : disk.Ghosts D) (spent : Spent D) (t : Story) (n
   work-breaks g (work.Put stream function body) st s is does =
       put-left members g.spool st spent s t is.stands is.told new images is.goes stopped stream function body does.0
       does.1
-  work-breaks g work.DropOldest st s is does =
+  work-breaks g (work.DropOldest slots) st s is does =
       drop-left members g.spool st spent s t is.stands is.told new images is.goes stopped does
   work-breaks g work.Purge st s is does =
       purge-left members g.spool st spent s t is.stands is.told new images is.goes stopped does

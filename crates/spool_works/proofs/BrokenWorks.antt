@@ -131,11 +131,11 @@ module _ {D : Type 0} (members : disk.Ghosts D) (v : SpoolView D) (st : Standing
   -- ---- a message leaves
 
   pub drop-left : Drops members v (Err (dropping.Failed spent))
-      → HasLeftAt (calls_at st (Change work.DropOldest)) health.stop_in t
+      → HasLeftAt (calls_at st (Change (work.DropOldest 1))) health.stop_in t
   drop-left drops = record {
-    left = by_gate closes (standing_after st work.DropOldest) st;
+    left = by_gate closes (standing_after st (work.DropOldest 1)) st;
     is =
-        one-of-two health.stop_in (by_gate closes (standing_after st work.DropOldest) st)
+        one-of-two health.stop_in (by_gate closes (standing_after st (work.DropOldest 1)) st)
         (by-cause 2 _ drops.0.disk.cause);
     at = λ choice.
         subst (StandsFor (image_of choice t))

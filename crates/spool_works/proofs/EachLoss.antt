@@ -85,7 +85,7 @@ module _ (Good : SpoolFile → Type 0) where
     behind-good ReadOldest shut after = (tt, tt)
     behind-good (Change (work.Put stream function body)) shut after =
         (stale-good (is_stale st) shut, (after, tt))
-    behind-good (Change work.DropOldest) shut after = (after, tt)
+    behind-good (Change (work.DropOldest slots)) shut after = (after, tt)
     behind-good (Change work.Purge) shut after = purge-good st.file.list after
 
     -- a put may have closed a stale gate by then

@@ -23,5 +23,5 @@ pub works-are-updates : WorksAreUpdates
 works-are-updates st Reserve = refl
 works-are-updates st ReadOldest = refl
 works-are-updates st (Change (work.Put stream function body)) = refl
-works-are-updates st (Change work.DropOldest) = refl
+works-are-updates st (Change (work.DropOldest slots)) = refl
 works-are-updates st (Change work.Purge) = purge-behind st st.file.list refl

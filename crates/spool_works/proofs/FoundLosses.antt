@@ -102,8 +102,8 @@ each-call st one leaving may =
     after ReadOldest may = finds-all st.file.list None leaving
     after (Change (work.Put stream function body)) may =
         finds-more st.file.list (record { number = st.next; stream = stream; function = function; body = body }) leaving
-    after (Change work.DropOldest) (inl is) = finds-less 1 st.file.list None leaving (some cause.Confirmed is)
-    after (Change work.DropOldest) (inr is) = finds-less 1 st.file.list None leaving (some cause.Overwritten is)
+    after (Change (work.DropOldest slots)) (inl is) = finds-less 1 st.file.list None leaving (some cause.Confirmed is)
+    after (Change (work.DropOldest slots)) (inr is) = finds-less 1 st.file.list None leaving (some cause.Overwritten is)
     after (Change work.Purge) is = record {
       missing = length (found_in st.file.list);
       stored = false;

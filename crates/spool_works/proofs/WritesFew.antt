@@ -108,7 +108,7 @@ module _ (st : Standing) where
   work-few ReadOldest short = page-few _ (omega arith) (omega arith)
   work-few (Change (work.Put stream function body)) short =
       put-few (is_stale st) _ (parts-few stream function body short)
-  work-few (Change work.DropOldest) short = page-few _ (omega arith) (omega arith)
+  work-few (Change (work.DropOldest slots)) short = page-few _ (omega arith) (omega arith)
   work-few (Change work.Purge) short = purge-few st.file.list
 
 -- ---- steps behind a start

@@ -23,14 +23,14 @@ calls_at st one = losses_in st (updates_at st one)
 abbrev pub storing_at : ℕ → DiskWork → Option (ℕ × Spooled)
 storing_at next (DiskWork.Change (work.Put stream function body)) =
     Some (next, record { stream = stream; function = function; body = body })
-storing_at next (DiskWork.Change work.DropOldest) = None
+storing_at next (DiskWork.Change (work.DropOldest slots)) = None
 storing_at next (DiskWork.Change work.Purge) = None
 storing_at next DiskWork.Reserve = None
 storing_at next DiskWork.ReadOldest = None
 
 abbrev pub MayLeaveAt : DiskWork → Option Cause → Type 0
 MayLeaveAt (DiskWork.Change (work.Put stream function body)) leaving = Unit {0}
-MayLeaveAt (DiskWork.Change work.DropOldest) leaving =
+MayLeaveAt (DiskWork.Change (work.DropOldest slots)) leaving =
     (leaving ≡ Some cause.Confirmed) ⊎ (leaving ≡ Some cause.Overwritten)
 MayLeaveAt (DiskWork.Change work.Purge) leaving = leaving ≡ Some cause.Purged
 MayLeaveAt DiskWork.Reserve leaving = Unit {0}

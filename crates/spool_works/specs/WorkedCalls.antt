@@ -60,7 +60,7 @@ full_of_three =
 
 -- behind a drop, and behind a purge
 abbrev pub dropped_one : Standing
-dropped_one = standings_behind of_one (Change DropOldest ∷ [])
+dropped_one = standings_behind of_one (Change (DropOldest 1) ∷ [])
 
 abbrev pub purged_three : Standing
 purged_three = standings_behind full_of_three (Change Purge ∷ [])
@@ -79,7 +79,7 @@ pub record CallsOfWorks : Type 0 where
       all_disk_calls of_three (put_alarm ∷ [])
       ≡ reads 8192 1 ∷ writes 8193 (alarm 7) ∷ syncs ∷ writes 8192 (90 ∷ []) ∷ syncs ∷ []
   pub drops :
-      all_disk_calls of_three (Change DropOldest ∷ []) ≡ writes 12288 (0 ∷ []) ∷ syncs ∷ []
+      all_disk_calls of_three (Change (DropOldest 1) ∷ []) ≡ writes 12288 (0 ∷ []) ∷ syncs ∷ []
   -- the floor becomes 3
   pub purges :
       all_disk_calls full_of_three (Change Purge ∷ [])
@@ -104,7 +104,7 @@ pub record CallsOfWorks : Type 0 where
       ≡ reads 28 1 ∷ writes 12 (0 ∷ 0 ∷ 0 ∷ 0 ∷ 0 ∷ 0 ∷ 32 ∷ 0 ∷ []) ∷ syncs ∷ writes 28 (0 ∷ []) ∷ syncs
       ∷ reads 28 1 ∷ writes 20 (0 ∷ 0 ∷ 0 ∷ 0 ∷ 0 ∷ 0 ∷ 48 ∷ 0 ∷ []) ∷ syncs ∷ writes 28 (1 ∷ []) ∷ syncs ∷ []
   pub overwrites :
-      all_disk_calls of_two (Change DropOldest ∷ put_alarm ∷ [])
+      all_disk_calls of_two (Change (DropOldest 1) ∷ put_alarm ∷ [])
       ≡ writes 8192 (0 ∷ [])
       ∷ syncs
       ∷ reads 8192 1
@@ -115,7 +115,7 @@ pub record CallsOfWorks : Type 0 where
       ∷ []
   -- in one slot, too, the put finds the gate that the drop has closed
   pub overwrites_one :
-      all_disk_calls of_one (Change DropOldest ∷ put_alarm ∷ [])
+      all_disk_calls of_one (Change (DropOldest 1) ∷ put_alarm ∷ [])
       ≡ writes 4096 (0 ∷ [])
       ∷ syncs
       ∷ reads 4096 1
@@ -131,7 +131,7 @@ pub record CallsOfWorks : Type 0 where
 pub record KeptBehindWorks : Type 0 where
   pub put :
       (standings_behind of_three (Change (Put 5 1 (1 ∷ 2 ∷ [])) ∷ [])).file.gates ≡ true ∷ true ∷ true ∷ []
-  pub dropped : (standings_behind of_three (Change DropOldest ∷ [])).file.gates ≡ true ∷ false ∷ false ∷ []
+  pub dropped : (standings_behind of_three (Change (DropOldest 1) ∷ [])).file.gates ≡ true ∷ false ∷ false ∷ []
   -- a purge leaves each gate as it is
   pub purged :
       (standings_behind of_three (Change Purge ∷ [])).file
@@ -139,7 +139,7 @@ pub record KeptBehindWorks : Type 0 where
   pub reserved : (standings_behind of_three (Reserve ∷ [])).file.mark ≡ first_copy 8192
   -- in one slot the gate that a drop closes is the one that a put opens
   pub overwritten :
-      (standings_behind of_one (Change DropOldest ∷ Change (Put 5 1 []) ∷ [])).file
+      (standings_behind of_one (Change (DropOldest 1) ∷ Change (Put 5 1 []) ∷ [])).file
       ≡ file_with (true ∷ []) (plain 7 ∷ [])
 
 -- ---- what a loss leaves at each
@@ -168,8 +168,8 @@ pub record LossesOfWorks : Type 0 where
   pub put_5A : numbers_left of_three put_alarm (Fill 90) ≡ then_left 3 (5 ∷ 6 ∷ []) 2 (5 ∷ 6 ∷ 7 ∷ [])
   pub put_A5 : numbers_left of_three put_alarm (Fill 165) ≡ replicate 5 (5 ∷ 6 ∷ [])
   -- one slot that overwrites
-  pub drop_5A : numbers_left of_one (Change DropOldest) (Fill 90) ≡ replicate 2 (6 ∷ [])
-  pub drop_A5 : numbers_left of_one (Change DropOldest) (Fill 165) ≡ replicate 2 []
+  pub drop_5A : numbers_left of_one (Change (DropOldest 1)) (Fill 90) ≡ replicate 2 (6 ∷ [])
+  pub drop_A5 : numbers_left of_one (Change (DropOldest 1)) (Fill 165) ≡ replicate 2 []
   pub put_then_5A : numbers_left dropped_one put_alarm (Fill 90) ≡ then_left 3 [] 2 (7 ∷ [])
   pub put_then_A5 : numbers_left dropped_one put_alarm (Fill 165) ≡ replicate 5 []
   -- a gate of the floor's cell that is odd names the second copy, which is the new one

@@ -1,6 +1,6 @@
 //! The equipment as it starts, with what is known of its spool, and when it next acts by itself.
 
-ghost use Rattle.std.specs.Prelude.{◌≡◌, ◌+◌, ◌≤◌, ◌^◌, IfOk};
+ghost use Rattle.std.specs.Prelude.{◌≡◌, ◌+◌, ◌≤◌, ◌^◌, length, IfOk};
 ghost use Rattle.equipment_tables.specs.Plan.{EquipmentPlanFits};
 ghost use Rattle.tool_core.specs.Node.{node_of};
 ghost use Rattle.tool_core.specs.Starting.{IsStartNoted, new_node};
@@ -31,7 +31,7 @@ impl Tool {
         requires plan { EquipmentPlanFits plan.now }
         requires numbers { base + 4096 ≤ 2 ^ 32 }
         ensures node { IfOk result (λ tool. node_of tool.value ≡ new_node plan.now ledger base) }
-        ensures noted { IfOk result (λ tool. IsStartNoted ledger.len base out.old out.new) }
+        ensures noted { IfOk result (λ tool. IsStartNoted (length ledger.sizes) base out.old out.new) }
         ensures line { out.new.line ≡ out.old.line }
     {
         let len = u64::from(ledger.len());

@@ -1,11 +1,9 @@
 -- That the ledger of the spool stays good, and notes what no law of messages speaks of.
-use Rattle.std.proofs.Common.{◌≡◌, refl, arith, Bool, true, false, not, ℕ, ◌+◌, ◌^◌, ◌&&◌, ◌==◌, ◌≤◌, nat_le, nat_lt, List, [], ◌∷◌, ◌++◌, All, Option, Some, None, if◌then◌else◌, length}
+use Rattle.std.proofs.Common.{◌≡◌, refl, arith, Bool, true, false, not, ℕ, ◌+◌, ◌^◌, ◌&&◌, ◌||◌, ◌==◌, ◌≤◌, nat_le, nat_lt, List, [], ◌∷◌, ◌++◌, All, Option, Some, None, if◌then◌else◌, length}
 use Rattle.std.specs.Option.{option_map, option_map_or}
 use Rattle.std.specs.Prelude.{IfSome, is_none}
 use Rattle.std.proofs.lemmas.Bool.Decides.{nat_tests}
 use Rattle.std.proofs.lemmas.List.Elements.{All-nil, All-cons, All-head, All-tail}
-use Rattle.gem_spool.specs.Spool.{room_in}
-use Rattle.gem_spool.specs.declared.count.Count.{Count}
 use Rattle.gem_spool.specs.declared.spool.Room.{Room}
 use Rattle.gem_spool.specs.declared.spool.Room.TheVariants as room
 use Rattle.gem_spool.specs.declared.works.Work.{Work}
@@ -13,6 +11,7 @@ use Rattle.gem_spool.specs.declared.works.Work.TheVariants as work
 use Rattle.gem_spool.specs.Standing.{Standing}
 use Rattle.gem_spool.specs.Works.{list_after, standing_after, standings_after}
 use Rattle.spool_file.specs.File.{SpoolFile}
+use Rattle.spool_file.specs.Run.{slots_for}
 use Rattle.spool_file.specs.Slot.{Message}
 use Rattle.trace_log.specs.declared.names.Cause.{Cause}
 use Rattle.trace_log.specs.declared.names.Cause.TheVariants.{Confirmed, Overwritten, Purged}
@@ -23,8 +22,9 @@ use Rattle.spool_ledger.specs.declared.ledger.Stand.{Stand}
 use Rattle.spool_ledger.specs.declared.unload.Tried.{Tried}
 use Rattle.spool_ledger.specs.declared.unload.Unload.{Unload}
 use Rattle.spool_ledger.specs.Activity.{activated, changed, is_done, rested}
-use Rattle.spool_ledger.specs.Ledger.{Booked, LedgerView, and_then, carried_out, decided_count, new_ledger, owed, quiet, room_for}
-use Rattle.spool_ledger.specs.Storing.{all_out, oldest_out, put, stored, stored_by}
+use Rattle.spool_ledger.specs.Ledger.{Booked, LedgerView, and_then, carried_out, is_full, new_ledger, next_of, owed, quiet, room_by, room_for, size_of}
+use Rattle.spool_ledger.specs.Storing.{all_out, oldest_of, oldest_out, put, room_made, stored, stored_by, with_room}
+use Rattle.spool_ledger.proofs.Keeping.{made_if}
 use Rattle.spool_ledger.specs.Unloading.{after_next, confirmed, counted, is_oldest_tried, is_over, let_go, settled, taken_up, trying, unload_next, waiting_in, with_each, with_unload}
 use Rattle.tool_step.specs.Equipment.{settled_file}
 use Rattle.spool_works.specs.Found.{spooled_of}
@@ -100,17 +100,25 @@ IsShortFor room.Full long = long ≤ 4081
 IsShortFor room.TooLong long = Unit {0}
 IsShortFor room.NumbersSpent long = Unit {0}
 
-room-short : (c : Count) (long : ℕ) → IsShortFor (room_in c long) long
-room-short c long = go (nat_lt 4081 long) (nat_le (2 ^ 63) c.next) (c.len == c.slots) refl
+room-short : (v : LedgerView) (long : ℕ) → IsShortFor (room_for v long) long
+room-short v long =
+    go (nat_lt 4081 long || nat_lt v.slots (slots_for long)) (nat_le (2 ^ 63) (next_of v))
+    (is_full v.slots v.sizes (slots_for long)) refl
   where
-    go : (too spent full : Bool) → nat_lt 4081 long ≡ too
-        → IsShortFor
-        (if too then room.TooLong else (if spent then room.NumbersSpent else (if full then room.Full else room.Fits)))
-        long
+    short : (too more : Bool) → (too || more) ≡ false → too ≡ false
+    short true more none = absurd (grind (arith, none))
+    short false more none = refl
+
+    is-short : (nat_lt 4081 long || nat_lt v.slots (slots_for long)) ≡ false → long ≤ 4081
+    is-short none =
+        let fits = short (nat_lt 4081 long) (nat_lt v.slots (slots_for long)) none in grind (arith, nat_tests, fits)
+
+    go : (never spent full : Bool) → (nat_lt 4081 long || nat_lt v.slots (slots_for long)) ≡ never
+        → IsShortFor (room_by never spent full) long
     go true spent full e = tt
     go false true full e = tt
-    go false false true e = grind (arith, nat_tests, e)
-    go false false false e = grind (arith, nat_tests, e)
+    go false false true e = is-short e
+    go false false false e = is-short e
 
 module _ {slots : ℕ} {stood : Stand} where
   booked-then :
@@ -147,19 +155,34 @@ module _ {slots : ℕ} {stood : Stand} where
   oldest-good cause for_one v is = record {
     next = record {
       waiting = is.waiting;
-      works = owes-more v work.DropOldest is tt;
+      works = owes-more v (work.DropOldest (oldest_of v.sizes)) is tt;
       slots_are = is.slots_are;
       stood_is = is.stood_is;
     };
     plain = (tt, (tt, tt));
   }
 
+  made-good :
+      (size : ℕ) (for_one : Option Spooled) (sizes : List ℕ) (v : LedgerView) → IsGoodLedger slots stood v
+      → IsGoodBooked slots stood (room_made size for_one sizes v)
+  made-good size for_one [] v is = quiet-good v is
+  made-good size for_one (oldest ∷ sizes) v is =
+      go (is_full v.slots v.sizes size)
+      (booked-then (oldest_out Overwritten for_one v) (room_made size for_one sizes) (oldest-good Overwritten for_one v is)
+      (λ w so. made-good size for_one sizes w so))
+    where
+      go : (full : Bool)
+          → IsGoodBooked slots stood (and_then (oldest_out Overwritten for_one v) (room_made size for_one sizes))
+          → IsGoodBooked slots stood (made_if size for_one full sizes v)
+      go true less = less
+      go false less = quiet-good v is
+
   pub all-out-good : (v : LedgerView) → IsGoodLedger slots stood v → IsGoodBooked slots stood (all_out v)
-  all-out-good v is = go (v.len == 0)
+  all-out-good v is = go (length v.sizes == 0)
     where
       left : Booked
       left = record {
-        next = record v { first = v.first + v.len; len = 0; works = owed v work.Purge };
+        next = record v { first = next_of v; sizes = []; works = owed v work.Purge };
         lines = Happening.Leaving v.first Purged None ∷ Happening.Gone v.first ∷ [];
       }
 
@@ -181,7 +204,7 @@ module _ {slots : ℕ} {stood : Stand} where
       → IfSome (stored_by found overwrites message v) (IsGoodBooked slots stood)
   stored-by-good room.Fits overwrites message v can short is = put-good message v can short is
   stored-by-good room.Full true message v can short is =
-      booked-then (oldest_out Overwritten (Some message) v) (put message) (oldest-good Overwritten (Some message) v is)
+      booked-then (with_room message v) (put message) (made-good (size_of message) (Some message) v.sizes v is)
       (λ w so. put-good message w can short so)
   stored-by-good room.Full false message v can short is = record { next = is; plain = (tt, tt) }
   stored-by-good room.TooLong overwrites message v can short is = record { next = is; plain = (tt, tt) }
@@ -192,7 +215,7 @@ module _ {slots : ℕ} {stood : Stand} where
       → IfSome (stored overwrites message v) (IsGoodBooked slots stood)
   stored-good overwrites message v can is =
       stored-by-good (room_for v (length message.body)) overwrites message v can
-      (room-short (decided_count v) (length message.body)) is
+      (room-short v (length message.body)) is
 
   -- ---- messages one after the other
 
@@ -294,7 +317,7 @@ module _ {slots : ℕ} {stood : Stand} where
 
 pub new-good :
     (slots first len : ℕ)
-    → IsGoodLedger slots (record { first = first; len = len }) (new_ledger slots first len)
+    → IsGoodLedger slots (new_ledger slots first len).stood (new_ledger slots first len)
 new-good slots first len =
     record { waiting = tt; works = All-nil PutsGood; slots_are = refl; stood_is = refl }
 
@@ -308,14 +331,14 @@ carried-good v is =
 abbrev Sendable : Message → Type 0
 Sendable message = CanBeSent (spooled_of message)
 
-pub all-tail : (list : List Message) → AllCanBeSent list → AllCanBeSent (list_after 0 list work.DropOldest)
+pub all-tail : (list : List Message) → AllCanBeSent list → AllCanBeSent (list_after 0 list (work.DropOldest 1))
 all-tail [] all = all
 all-tail (first ∷ list) all = All-tail Sendable first list all
 
 pub list-good : (next : ℕ) (list : List Message) (one : Work) → AllCanBeSent list → PutsGood one
     → AllCanBeSent (list_after next list one)
 list-good next list (work.Put stream function body) all is = All-snoc Sendable list _ all is.0
-list-good next list work.DropOldest all is = all-tail list all
+list-good next list (work.DropOldest slots) all is = all-tail list all
 list-good next list work.Purge all is = All-nil Sendable
 
 lists-good : (st : Standing) (works : List Work) → AllCanBeSent st.file.list → All PutsGood works

@@ -49,7 +49,7 @@ reserve-short s = go (needs_numbers s && not (is_marked_out s.file.mark.value))
 
 put-short : (one : Work) → PutsGood one → IsShort (Change one)
 put-short (work.Put stream function body) good = good.1
-put-short work.DropOldest good = tt
+put-short (work.DropOldest slots) good = tt
 put-short work.Purge good = tt
 
 changes-short : (works : List Work) → All PutsGood works → AreShort (map Change works)

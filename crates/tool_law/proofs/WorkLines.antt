@@ -238,7 +238,7 @@ lines-as v w list base notes stood works are = record {
   lines = are.lines;
   noted = are.noted;
   walks =
-      subst (λ (at : Stand). Walks (at.first + at.len) list base w.works are.lines) (sym stood)
+      subst (λ (at : Stand). Walks at.next list base w.works are.lines) (sym stood)
       (subst (λ (ws : List Work). Walks (stood_count v).next list base ws are.lines) (sym works) are.walks);
 }
 

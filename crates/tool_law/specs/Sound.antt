@@ -24,7 +24,7 @@ pub record CanBeSent (message : Spooled) : Type 0 where
 -- so is what is put into the spool, and a slot has room for it
 abbrev pub PutsGood : Work → Type 0
 PutsGood (work.Put stream function body) = CanBeSent (spooled stream function body) × (length body ≤ 4081)
-PutsGood work.DropOldest = Unit {0}
+PutsGood (work.DropOldest slots) = Unit {0}
 PutsGood work.Purge = Unit {0}
 
 -- what waits for a grant, and what is put there, can be sent; and the works are owed behind what the

@@ -6,8 +6,9 @@ use Rattle.std.specs.Option.{option_map, option_map_or}
 use Rattle.std.specs.Prelude.{All, IfSome}
 use Rattle.gem_spool.specs.declared.spool.Room.{Room}
 use Rattle.gem_spool.specs.declared.spool.Room.TheVariants as room
-use Rattle.spool_ledger.specs.Ledger.{Booked, LedgerView, next_of, room_for}
-use Rattle.spool_ledger.specs.Storing.{oldest_out, stored, stored_by}
+use Rattle.spool_ledger.specs.Ledger.{Booked, LedgerView, is_full, next_of, room_for, size_of}
+use Rattle.spool_ledger.specs.Storing.{oldest_out, put, room_made, stored, stored_by, with_room}
+use Rattle.spool_ledger.proofs.Keeping.{made_if}
 use Rattle.trace_log.specs.declared.names.Cause.TheVariants.{Overwritten}
 use Rattle.trace_log.specs.Names.{Spooled}
 use Rattle.transact.specs.declared.begun.Begun.{Begun}
@@ -313,13 +314,27 @@ module _ (plan : EquipmentPlan) (said : List ToolCommand) (before : List Happeni
       (said-later (so_far step) (what ∷ so_far step) lines (said-events what (so_far step) are.0) are.1))
       (noted-so own what step (said-note own step.next.drawn what (so_far step) are.0 holds))
 
+  made-said :
+      (size : ℕ) (for_one : Option Spooled) (sizes : List ℕ) (v : LedgerView) (notes : List Happening)
+      → AreSaid notes (room_made size for_one sizes v).lines
+  made-said size for_one [] v notes = tt
+  made-said size for_one (oldest ∷ sizes) v notes =
+      go (is_full v.slots v.sizes size) (made-said size for_one sizes (oldest_out Overwritten for_one v).next notes)
+    where
+      go : (full : Bool) → AreSaid notes (room_made size for_one sizes (oldest_out Overwritten for_one v).next).lines
+          → AreSaid notes (made_if size for_one full sizes v).lines
+      go true rest = (inl tt, (inl tt, rest))
+      go false rest = tt
+
   stored-said :
       (found : Room) (overwriting : Bool) (message : Spooled) (v : LedgerView) (notes : List Happening)
       → IsKeptReport plan message notes
       → IfSome (stored_by found overwriting message v) (λ (booked : Booked). AreSaid notes booked.lines)
   stored-said room.Fits overwriting message v notes kept = (inr (next_of v, message, refl, kept), (inl tt, tt))
   stored-said room.Full true message v notes kept =
-      (inl tt, (inl tt, (inr (next_of (oldest_out Overwritten (Some message) v).next, message, refl, kept), (inl tt, tt))))
+      said-both notes (with_room message v).lines (put message (with_room message v).next).lines
+      (made-said (size_of message) (Some message) v.sizes v notes)
+      (inr (next_of (with_room message v).next, message, refl, kept), (inl tt, tt))
   stored-said room.Full false message v notes kept = (inl tt, tt)
   stored-said room.TooLong overwriting message v notes kept = (inl tt, tt)
   stored-said room.NumbersSpent overwriting message v notes kept = tt

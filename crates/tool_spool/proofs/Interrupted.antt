@@ -17,8 +17,8 @@ use Rattle.message_end.specs.Core.Went.{Goes, Spent}
 use Rattle.message_end.specs.Course.{noted_behind}
 use Rattle.spool_law.specs.Shelf.{IsFoundOf, Shelf, shelf_of}
 use Rattle.spool_file.specs.File.{SpoolFile}
-use Rattle.spool_file.specs.Run.{IsRunFrom}
 use Rattle.spool_file.specs.Slot.{Message}
+use Rattle.spool_file.proofs.Evens.{one_slot}
 use Rattle.trace_log.specs.Log.{Happening}
 use Rattle.trace_log.specs.Names.{Spooled}
 use Rattle.spool_works.specs.DiskWorks.{DiskWork, behind_change, standing_behind, up_to_change}
@@ -30,20 +30,20 @@ use Rattle.tool_law.proofs.Lawful.{split-change}
 use Rattle.tool_step.proofs.LossCalls.{AtEach}
 use Rattle.spool_works.proofs.EachLoss.{each-work}
 use Rattle.spool_works.proofs.LossCounts.{Each}
-use Rattle.tool_spool.proofs.Shelved.{run-last, run-rest}
+use Rattle.tool_spool.proofs.EvenRuns.{IsEvenRun, run-last, run-rest}
 use Rattle.message_end.proofs.Growing.{behind-both}
 use Rattle.tool_law.proofs.WorkLines.{Walks}
 use Rattle.spool_works.specs.WorkLosses.{calls_at, storing_at}
 use Rattle.spool_works.proofs.FoundLosses.{length-drop-one, Leaves, each-call}
-use Rattle.spool_ledger.proofs.Keeping.{tests_fit}
+use Rattle.spool_ledger.proofs.Keeping.{not-below, tests_fit}
 
 -- ---- numbers and room
 
--- the numbers rise one by one up to the next one, and there are so many slots, and no more messages; the floor has the
--- same bound as the numbers
+-- the numbers rise one by one up to the next one, as each message takes one slot, and there are so many slots, and no
+-- more messages; the floor has the same bound as the numbers
 pub record StandsWell (slots : ℕ) (st : Standing) : Type 0 where
   pub first : ℕ
-  pub run : IsRunFrom first st.file.list
+  pub run : IsEvenRun first st.file.list
   pub next_is : first + length st.file.list ≡ st.next
   pub room : length st.file.list ≤ slots
   pub bound : st.next ≤ 2 ^ 63 + 65535
@@ -53,7 +53,7 @@ pub record StandsWell (slots : ℕ) (st : Standing) : Type 0 where
 -- so it is of a file, whatever comes behind its numbers
 pub record IsWell (slots : ℕ) (file : SpoolFile) : Type 0 where
   pub first : ℕ
-  pub run : IsRunFrom first file.list
+  pub run : IsEvenRun first file.list
   pub room : length file.list ≤ slots
   pub bound : first + length file.list ≤ 2 ^ 63 + 65535
   pub floor : file.floor.value ≤ 2 ^ 63 + 65535
@@ -75,7 +75,7 @@ module _ (slots : ℕ) where
       → StandsWell slots st → StandsWell slots (standing_after st (work.Put stream function body))
   after-put st stream function body fits is = record {
     first = is.first;
-    run = run-last is.first st.file.list one is.run (sym is.next_is);
+    run = run-last is.first st.file.list one is.run (sym is.next_is) (one_slot (length body) may.2);
     next_is = let next = is.next_is in omega (arith, long, next);
     room =
         let most = is.room in let all = is.slots_are in
@@ -93,15 +93,17 @@ module _ (slots : ℕ) where
       long : length (st.file.list ++ one ∷ []) ≡ length st.file.list + 1
       long = length-append st.file.list (one ∷ [])
 
-      may : (nat_le (2 ^ 63) st.next ≡ false) × ((length st.file.list == st.file.slots) ≡ false)
+      may : (nat_le (2 ^ 63) st.next ≡ false) × ((length st.file.list == st.file.slots) ≡ false) × (length body ≤ 4081)
       may =
-          tests_fit (nat_lt 4081 (length body)) (nat_le (2 ^ 63) st.next) (length st.file.list == st.file.slots) fits
+          let tests =
+          tests_fit (nat_lt 4081 (length body)) (nat_le (2 ^ 63) st.next) (length st.file.list == st.file.slots) fits in
+          (tests.1, tests.2, not-below 4081 (length body) tests.0)
 
       spent : nat_le (2 ^ 63) st.next ≡ false
       spent = may.0
 
   after-drop : (st : Standing) → 0 < length st.file.list → StandsWell slots st
-      → StandsWell slots (standing_after st work.DropOldest)
+      → StandsWell slots (standing_after st (work.DropOldest 1))
   after-drop st some is = record {
     first = is.first + 1;
     run = run-rest is.first st.file.list is.run;
@@ -145,7 +147,7 @@ module _ (slots : ℕ) where
       (st : Standing) (one : Work) → IsDue (count_in st) one → StandsWell slots st
       → StandsWell slots (standing_after st one)
   after-well st (work.Put stream function body) due is = after-put st stream function body due.2 is
-  after-well st work.DropOldest due is = after-drop st due is
+  after-well st (work.DropOldest freed) due is = after-drop st due.0 is
   after-well st work.Purge due is = after-purge st is
 
   -- one more work of those that are due
@@ -157,7 +159,7 @@ module _ (slots : ℕ) where
     where
       len-is : (one : Work) → length (list_after st.next st.file.list one) ≡ len_after (length st.file.list) one
       len-is (work.Put stream function body) = length-append st.file.list _
-      len-is work.DropOldest = length-drop-one st.file.list
+      len-is (work.DropOldest freed) = length-drop-one st.file.list
       len-is work.Purge = refl
 
   pub all-well : (works : List Work) (st : Standing) → AreDue (count_in st) works → StandsWell slots st

@@ -19,9 +19,10 @@ use Rattle.spool_law.specs.Shelf.{change_of, shelf_of}
 use Rattle.spool_law.specs.Shelf.Change.{Other}
 use Rattle.spool_ledger.specs.Ledger.{LedgerView, decided_count, new_ledger, next_of, stood_count}
 use Rattle.spool_ledger.specs.declared.ledger.Stand.{Stand}
+use Rattle.spool_ledger.proofs.Keeping.{even-sum}
+use Rattle.std.specs.Prelude.{sum}
 use Rattle.spool_file.specs.File.{SpoolFile}
 use Rattle.spool_file.specs.Format.{empty_file}
-use Rattle.spool_file.specs.Run.{IsRunFrom}
 use Rattle.spool_file.specs.Slot.{Message as Put}
 use Rattle.gem_spool.specs.Standing.{count_in}
 use Rattle.gem_spool.specs.Works.{AreDue, counts_after, lists_after, reserved as marked, standings_after}
@@ -62,7 +63,8 @@ use Rattle.tool_law.proofs.WorkLines.{Walks, same-lines}
 use Rattle.message_end.proofs.Parts.{OnEither}
 use Rattle.tool_spool.proofs.TakenTurns.{full-so}
 use Rattle.tool_spool.proofs.KeptStarts.{rebased, begun-both, IsBegunSo, begun-so, IsDone, IsKeptFile, step-both}
-use Rattle.tool_spool.proofs.KeptStarts.{step-lines, first-run, first-bound, finds-all, started-shelves}
+use Rattle.tool_spool.proofs.KeptStarts.{step-lines, finds-all, started-shelves}
+use Rattle.tool_spool.proofs.EvenRuns.{IsEvenRun, even-run, first-bound, first-run}
 
 module _ (plan : EquipmentPlan) (fits : EquipmentPlanFits plan) (looked : TablesAreLookedBackFor) (slots : ℕ) where
   -- ---- over all starts
@@ -101,7 +103,7 @@ module _ (plan : EquipmentPlan) (fits : EquipmentPlanFits plan) (looked : Tables
     started-so :
         (other : EquipmentPlan) (file : SpoolFile) (notes : List Happening) → other ≡ plan → file.slots ≡ slots
         → KeepsOn (policy_of plan slots) (Happening.EquipmentStarted (found_in file.list) file.mark.value ∷ notes)
-        → IsRunFrom (first_in file) file.list → length file.list ≤ slots
+        → IsEvenRun (first_in file) file.list → length file.list ≤ slots
         → first_in file + length file.list ≤ 2 ^ 63 + 65535 → file.floor.value ≤ 2 ^ 63 + 65535
         → IsSpoolSo (started_on other file).next (noted_behind (started_on other file).notes notes)
     started-so other file notes same all kept run room bound low =
@@ -166,16 +168,20 @@ module _ (plan : EquipmentPlan) (fits : EquipmentPlanFits plan) (looked : Tables
         same : settled_list w s.file.list ≡ s.file.list
         same = file-list w s.file.list so.none
 
-        long : length s.file.list ≡ w.len
+        long : length s.file.list ≡ length w.sizes
         long = ap (λ (l : List Put). length l) (sym same) ∙ so.shelves.shelved.long
+
+        even : sum w.sizes ≡ length w.sizes
+        even = even-sum w.sizes so.shelves.is.even
 
         well : StandsWell slots (standing_in s)
         well = record {
           first = w.first;
-          run = subst (IsRunFrom w.first) same so.shelves.shelved.run;
-          next_is = let l = long in omega (arith, l);
+          run = subst (IsEvenRun w.first) same so.shelves.shelved.run;
+          next_is = let l = long in let e = even in omega (arith, l, e);
           room =
-              let is = so.shelves.is.room in let all = so.shelves.all in let l = long in omega (arith, is, all, l);
+              let is = so.shelves.is.room in let all = so.shelves.all in let l = long in let e = even in
+              omega (arith, is, all, l, e);
           bound = so.shelves.is.bound;
           floor = so.floor;
           slots_are = so.slots_are;
@@ -192,9 +198,9 @@ module _ (plan : EquipmentPlan) (fits : EquipmentPlanFits plan) (looked : Tables
         stood-is =
             ap (λ (works : List Work). counts_after (stood_count w) works) (sym so.none) ∙ so.shelves.is.come_to
 
-        next-is : v.stood.first + v.stood.len ≡ next_of w
+        next-is : v.stood.next ≡ next_of w
         next-is =
-            ap (λ (at : Stand). at.first + at.len) stays.1 ∙ ap (λ (c : Count). c.next) stood-is
+            ap (λ (at : Stand). at.next) stays.1 ∙ ap (λ (c : Count). c.next) stood-is
 
         due : AreDue (count_in (standing_in s)) v.works
         due =
@@ -361,9 +367,9 @@ module _ (plan : EquipmentPlan) (fits : EquipmentPlanFits plan) (looked : Tables
             started-so s.node.own.plan file (Happening.Power ∷ noted_behind loss.front notes) holds.plan_is
             is-found.well.slots_are
             (inr (is-found.found, inl tt, tt, inr (tt, inl used, tt, kept)))
-            ((first-run plan fits looked slots) file.floor.value is-found.well.first file.list is-found.well.run)
+            (first-run file.floor.value is-found.well.first file.list is-found.well.run)
             is-found.well.room
-            ((first-bound plan fits looked slots) file.floor.value is-found.well.first (2 ^ 63 + 65535) file.list
+            (first-bound file.floor.value is-found.well.first (2 ^ 63 + 65535) file.list
             is-found.well.run is-found.well.bound is-found.well.floor)
             is-found.well.floor
 
@@ -384,18 +390,22 @@ module _ (plan : EquipmentPlan) (fits : EquipmentPlanFits plan) (looked : Tables
         same : settled_list v s.file.list ≡ s.file.list
         same = file-list v s.file.list so.none
 
-        long : length s.file.list ≡ v.len
+        long : length s.file.list ≡ length v.sizes
         long = ap (λ (l : List Put). length l) (sym same) ∙ so.shelves.shelved.long
 
-        run : IsRunFrom v.first s.file.list
-        run = subst (IsRunFrom v.first) same so.shelves.shelved.run
+        even : sum v.sizes ≡ length v.sizes
+        even = even-sum v.sizes so.shelves.is.even
+
+        run : IsEvenRun v.first s.file.list
+        run = subst (IsEvenRun v.first) same so.shelves.shelved.run
 
         room : length s.file.list ≤ slots
         room =
-            let is = so.shelves.is.room in let all = so.shelves.all in let l = long in omega (arith, is, all, l)
+            let is = so.shelves.is.room in let all = so.shelves.all in let l = long in let e = even in
+            omega (arith, is, all, l, e)
 
         bound : v.first + length s.file.list ≤ 2 ^ 63 + 65535
-        bound = let is = so.shelves.is.bound in let l = long in omega (arith, is, l)
+        bound = let is = so.shelves.is.bound in let l = long in let e = even in omega (arith, is, l, e)
 
         go : (spent : Bool)
             → IsCourseKept
@@ -412,8 +422,8 @@ module _ (plan : EquipmentPlan) (fits : EquipmentPlanFits plan) (looked : Tables
               tt,
               so.shelves.shelved.kept,
             ))
-            ((first-run plan fits looked slots) s.file.floor.value v.first s.file.list run) room
-            ((first-bound plan fits looked slots) s.file.floor.value v.first (2 ^ 63 + 65535) s.file.list run bound
+            (first-run s.file.floor.value v.first s.file.list run) room
+            (first-bound s.file.floor.value v.first (2 ^ 63 + 65535) s.file.list run bound
             so.floor) so.floor
     meeting-so (Writes characters) said (Reached s notes) reported so =
         noted-so s notes (Happening.Wrote characters) refl so
@@ -429,7 +439,7 @@ module _ (plan : EquipmentPlan) (fits : EquipmentPlanFits plan) (looked : Tables
           → IsCourseKept (course_of (started_on plan file) machine meetings)
       course-kept [] =
           started-so plan file [] refl all (inl (record { found = found_in file.list; is = refl; alone = refl }))
-          may.run
+          (even-run (first_in file) (first_in file + length file.list) file.list refl may.run)
           (subst (λ (n : ℕ). length file.list ≤ n) all may.room) may.bound may.floor
       course-kept (meeting ∷ meetings) =
           meeting-so meeting (commands_met (started_on plan file) meetings)
@@ -500,7 +510,7 @@ spool-is-kept looked plan slots fits some most meetings =
     kept-empty (policy_of plan slots) (notes_of (course_of (started_on plan (empty_file slots)) machine meetings))
     (spool-is-kept-from looked plan (empty_file slots) fits some most
     (record {
-      run = tt;
+      run = omega arith;
       room = omega arith;
       bound = omega arith;
       floor = omega arith;

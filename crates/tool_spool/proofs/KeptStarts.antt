@@ -5,6 +5,7 @@ use Rattle.trace_log.specs.Log.{Happening}
 use Rattle.transact.specs.Numbers.{numbers_from}
 use Rattle.message_end.specs.Core.{EndView, Step, Went, and_then, at_first, step_in}
 use Rattle.message_end.specs.Core.Went.{Goes, Spent}
+use Rattle.spool_ledger.proofs.Keeping.{long-ones, new_keeps}
 use Rattle.message_end.specs.Course.{noted_behind}
 use Rattle.message_end.specs.Ends.{Input}
 use Rattle.message_end.specs.Laws.{new_end}
@@ -12,7 +13,6 @@ use Rattle.message_end.specs.Parts.{Node, after_parts}
 use Rattle.spool_law.specs.Shelf.{Change, IsFoundOf, shelf_of}
 use Rattle.spool_ledger.specs.Laws.{Call}
 use Rattle.spool_ledger.specs.Ledger.{LedgerView, carried_out, new_ledger, stood_count}
-use Rattle.spool_file.specs.Run.{IsRunFrom}
 use Rattle.spool_file.specs.Slot.{Message as Put}
 use Rattle.gem_spool.specs.Works.{AreDue}
 use Rattle.gem_spool.specs.declared.works.Work.{Work}
@@ -21,7 +21,6 @@ use Rattle.equipment_tables.specs.Laws.{TablesAreLookedBackFor}
 use Rattle.equipment_tables.specs.Plan.{EquipmentPlanFits}
 use Rattle.tool_step.specs.declared.kind.Kind.{Kind}
 use Rattle.tool_step.specs.Equipment.{EquipmentView, act, begun_step, ended_step, is_marked_out, needs_numbers, new_own, node_step, oldest_of, parts_done, reserved, settled, settled_list, settled_own, settled_step, settled_went, went_with_file}
-use Rattle.spool_file.specs.Area.{first_of}
 use Rattle.spool_works.specs.Found.{found_in}
 use Rattle.tool_reports.specs.Histories.{with_command}
 use Rattle.tool_law.proofs.Lawful.{IsGoodView, begun-good, oldest-good, settled-view-good}
@@ -33,6 +32,7 @@ use Rattle.tool_spool.specs.SpoolKept.{policy_of}
 use Rattle.tool_step.specs.Step.{begun, end_plan, first_parts, last_parts}
 use Rattle.tool_reports.proofs.QuietReports.{Holds, holds-less}
 use Rattle.tool_spool.specs.MadeRoom.{IsRoomUsed}
+use Rattle.tool_spool.proofs.EvenRuns.{IsEvenRun}
 use Rattle.tool_spool.proofs.FromStarts.{KeepsOn}
 use Rattle.tool_spool.proofs.KeptLedger.{one-call}
 use Rattle.tool_spool.proofs.PairedLines.{AreTold, changes-both, told-none}
@@ -326,15 +326,6 @@ module _ (plan : EquipmentPlan) (fits : EquipmentPlanFits plan) (looked : Tables
 
   -- ---- starts
 
-  pub first-run : (floor n : ℕ) (list : List Put) → IsRunFrom n list → IsRunFrom (first_of floor list) list
-  first-run floor n [] run = tt
-  first-run floor n (m ∷ list) run = (refl, subst (λ (k : ℕ). IsRunFrom (k + 1) list) (sym run.0) run.1)
-
-  pub first-bound : (floor n most : ℕ) (list : List Put) → IsRunFrom n list → n + length list ≤ most → floor ≤ most
-      → first_of floor list + length list ≤ most
-  first-bound floor n most [] run below low = omega (arith, low)
-  first-bound floor n most (m ∷ list) run below low = let same = run.0 in omega (arith, below, same)
-
   -- a start finds what stands, or what a loss of power has left of it
   abbrev pub Finds : List Happening → List Put → Type 0
   Finds notes list =
@@ -351,27 +342,19 @@ module _ (plan : EquipmentPlan) (fits : EquipmentPlanFits plan) (looked : Tables
   pub started-shelves :
       (list : List Put) (first mark : ℕ) (before notes : List Happening) → 0 < slots → slots < 2 ^ 16
       → KeepsOn (policy_of plan slots) (Happening.EquipmentStarted (found_in list) mark ∷ notes)
-      → IsRunFrom first list → length list ≤ slots → first + length list ≤ 2 ^ 63 + 65535
+      → IsEvenRun first list → length list ≤ slots → first + length list ≤ 2 ^ 63 + 65535
       → Shelves plan slots list (Happening.EquipmentStarted (found_in list) mark ∷ notes) before
       (new_own plan (new_ledger slots first (length list))) (new_end (end_plan plan) (numbers_from mark 4096))
       (Happening.EquipmentStarted (found_in list) mark ∷ notes)
   started-shelves list first mark before notes some most kept run room bound = record {
-    is = record {
-      some = some;
-      most = below slots most;
-      room = room;
-      bound = bound;
-      confirmed = omega arith;
-      due = tt;
-      come_to = refl;
-    };
+    is = new_keeps slots first (length list) some (below slots most) room bound;
     all = refl;
     shelved = record {
       kept = kept;
       rest = record { none_stored = refl; none_leaves = refl };
       stands = refl;
       run = run;
-      long = refl;
+      long = sym (long-ones (length list));
       lines =
           lines-none (new_ledger slots first (length list)) list
           (Happening.EquipmentStarted (found_in list) mark ∷ notes) refl;

@@ -13,8 +13,8 @@ use Rattle.spool_ledger.specs.declared.ledger.Stand.{Stand}
 use Rattle.gem_spool.specs.Works.{lists_after}
 use Rattle.gem_spool.specs.declared.works.Work.{Work}
 use Rattle.spool_ledger.specs.Storing.{oldest_out}
+use Rattle.spool_ledger.proofs.Keeping.{oldest-one}
 use Rattle.spool_ledger.specs.Unloading.{confirmed, counted, is_oldest_tried, settled, taken_up, tried_in, tries, with_each}
-use Rattle.spool_file.specs.Run.{IsRunFrom}
 use Rattle.spool_file.specs.Slot.{Message as Put}
 use Rattle.trace_log.specs.Log.{Happening}
 use Rattle.trace_log.specs.Log.Happening.{Spool, Try}
@@ -28,6 +28,7 @@ use Rattle.tool_spool.specs.LeavesInStep.{IsConfirmedInStep}
 use Rattle.tool_spool.specs.SpoolKept.{policy_of}
 use Rattle.tool_spool.proofs.KeptLedger.{IsKeptBy, one-call}
 use Rattle.tool_spool.proofs.PairedLines.{told-as}
+use Rattle.tool_spool.proofs.EvenRuns.{IsEvenRun}
 use Rattle.tool_spool.proofs.Shelved.{IsShelved, first-is, noted-shelved, out-shelved, shelved-closed, shelved-for}
 use Rattle.tool_law.proofs.WorkLines.{lines-as}
 
@@ -61,17 +62,17 @@ module _ (plan : EquipmentPlan) (slots : ℕ) (list : List Put) (base : List Hap
   OwesAs v w = (w.stood ≡ v.stood) × (w.works ≡ v.works)
 
   pub moved-shelved :
-      (v w : LedgerView) (notes : List Happening) → w.first ≡ v.first → w.len ≡ v.len
+      (v w : LedgerView) (notes : List Happening) → w.first ≡ v.first → w.sizes ≡ v.sizes
       → OwesAs v w → IsShelved (policy_of plan slots) v list base notes
       → IsShelved (policy_of plan slots) w list base notes
-  moved-shelved v w notes first len owes shelved = record {
+  moved-shelved v w notes first sizes owes shelved = record {
     kept = shelved.kept;
     rest = shelved.rest;
     stands = shelved.stands ∙ ap found_in (sym same);
     run =
-        subst (λ (n : ℕ). IsRunFrom n (settled_list w list)) (sym first)
-        (subst (IsRunFrom v.first) (sym same) shelved.run);
-    long = ap length same ∙ shelved.long ∙ sym len;
+        subst (λ (n : ℕ). IsEvenRun n (settled_list w list)) (sym first)
+        (subst (IsEvenRun v.first) (sym same) shelved.run);
+    long = ap length same ∙ shelved.long ∙ ap (λ (all : List ℕ). length all) (sym sizes);
     lines = lines-as v w list base notes owes.0 owes.1 shelved.lines;
     told = told-as v w list base notes owes.0 owes.1 shelved.told;
     closed = shelved.closed;
@@ -79,14 +80,14 @@ module _ (plan : EquipmentPlan) (slots : ℕ) (list : List Put) (base : List Hap
     where
       same : settled_list w list ≡ settled_list v list
       same =
-          ap (λ (at : Stand). lists_after (at.first + at.len) list w.works) owes.0
+          ap (λ (at : Stand). lists_after at.next list w.works) owes.0
           ∙ ap (λ (works : List Work). lists_after (stood_count v).next list works) owes.1
 
   module _ (v : LedgerView) (notes : List Happening) (is : IsLedger v)
       (shelved : IsShelved (policy_of plan slots) v list base notes)
     where
       -- an unload begins, goes on or ends
-      pub unload-kept : (w : LedgerView) → IsLedger w → w.slots ≡ v.slots → w.first ≡ v.first → w.len ≡ v.len
+      pub unload-kept : (w : LedgerView) → IsLedger w → w.slots ≡ v.slots → w.first ≡ v.first → w.sizes ≡ v.sizes
           → OwesAs v w → IsKeptBy plan slots list base v notes w []
       unload-kept w good all first len same = record {
         is = good;
@@ -139,7 +140,7 @@ module _ (plan : EquipmentPlan) (slots : ℕ) (list : List Put) (base : List Hap
       -- ---- a message is taken up
 
       pub taken-shelved :
-          (system : ℕ) (waiting : Option (List ℕ)) → 0 < v.len
+          (system : ℕ) (waiting : Option (List ℕ)) → 0 < length v.sizes
           → IsShelved (policy_of plan slots) (taken_up v.first system waiting v).next list base
           (Try v.first system ∷ notes)
       taken-shelved system waiting some =
@@ -189,10 +190,12 @@ module _ (plan : EquipmentPlan) (slots : ℕ) (list : List Put) (base : List Hap
                 (noted_behind (oldest_out cause.Confirmed None v).lines notes) refl
                 (out-shelved (policy_of plan slots) v list base notes cause.Confirmed None is
                 (shelved-for None (policy_of plan slots) v list base notes shelved)
-                (some v.len (tries v.first v.unload) e) (λ e2. absurd (grind (arith, e2))) ((may e).0, refl) (may e).1));
+                (some (length v.sizes) (tries v.first v.unload) e) (λ e2. absurd (grind (arith, e2))) ((may e).0, refl) (may e).1));
             told = refl;
             tables = refl;
-            moves = inr (omega arith);
+            moves =
+                let one = oldest-one v.sizes is.even (some (length v.sizes) (tries v.first v.unload) e) in
+                inr (omega (arith, one));
           }
           go false e good = unload-kept (with_each settled v) good refl refl refl (refl, refl)
 

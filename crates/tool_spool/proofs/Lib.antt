@@ -2,6 +2,7 @@ pub mod CalmCommands
 pub mod CalmParts
 pub mod CalmSamples
 pub mod CalmTurns
+pub mod EvenRuns
 pub mod FromStarts
 pub mod Interrupted
 pub mod KeptLedger

@@ -110,7 +110,7 @@ told-as v w list base notes stood works told = record {
   lines = told.lines;
   noted = told.noted;
   pairs =
-      subst (λ (at : Stand). AreInPairs (at.first + at.len) list w.works (changes_in told.lines)) (sym stood)
+      subst (λ (at : Stand). AreInPairs at.next list w.works (changes_in told.lines)) (sym stood)
       (subst (λ (ws : List Work). AreInPairs (stood_count v).next list ws (changes_in told.lines)) (sym works)
       told.pairs);
 }

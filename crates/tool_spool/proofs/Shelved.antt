@@ -1,20 +1,22 @@
 -- That the spool that the notes tell of is the list that the ledger and the file come to, over every change of the
 -- ledger.
-use Rattle.std.proofs.Common.{◌≡◌, ◌≢◌, refl, sym, ap, subst, ◌∙◌, inl, inr, arith, ◌<◌, ◌+◌, ◌-◌, ◌^◌, ◌==◌, nat_le, nat_lt, Bool, true, false, ℕ, List, [], ◌∷◌, ◌++◌, ◌⊎◌, drop, length, length-append, Option, Some, None, not, if◌then◌else◌}
+use Rattle.std.proofs.Common.{◌≡◌, ◌≢◌, refl, sym, ap, subst, ◌∙◌, inl, inr, arith, ◌<◌, ◌≤◌, ◌+◌, ◌-◌, ◌^◌, ◌==◌, nat_le, nat_lt, Bool, true, false, ℕ, List, [], ◌∷◌, ◌++◌, ◌⊎◌, drop, length, length-append, Option, Some, None, not, if◌then◌else◌}
 use Rattle.std.proofs.lemmas.Bool.Decides.{nat_tests}
+use Rattle.std.specs.Prelude.{sum}
 use Rattle.gem_spool.specs.Works.{count_after, counts_after, list_after, lists_after}
 use Rattle.gem_spool.specs.declared.count.Count.{Count}
 use Rattle.gem_spool.specs.declared.spool.Room.{Room}
 use Rattle.gem_spool.specs.declared.spool.Room.TheVariants as room
 use Rattle.gem_spool.specs.declared.works.Work.{Work}
 use Rattle.gem_spool.specs.declared.works.Work.TheVariants as work
+use Rattle.message_end.proofs.Growing.{behind-both}
 use Rattle.message_end.specs.Course.{noted_behind}
 use Rattle.message_end.specs.Own.{Has}
 use Rattle.spool_law.specs.Shelf.{Change, IsAtRest, IsFirst, MayChange, MayLeaveFor, Policy, change_of, leaves_by, shelf_changed, shelf_of}
-use Rattle.spool_ledger.specs.Ledger.{Booked, IsLedger, LedgerView, carried_out, next_of, owed, quiet, room_for, stood_count}
-use Rattle.spool_ledger.specs.Storing.{all_out, oldest_out, put, stored, stored_by}
-use Rattle.spool_ledger.proofs.Keeping.{full_has_some, oldest_out_keeps}
-use Rattle.spool_file.specs.Run.{IsRunFrom}
+use Rattle.spool_ledger.specs.Ledger.{Booked, IsLedger, LedgerView, carried_out, is_full, next_of, owed, quiet, room_for, size_of, stood_count}
+use Rattle.spool_ledger.specs.Storing.{all_out, oldest_of, oldest_out, put, room_made, stored, stored_by, with_room}
+use Rattle.spool_ledger.proofs.Following.{made_comes}
+use Rattle.spool_ledger.proofs.Keeping.{even-sum, fits_free, fits_one, fits_short, full_fits, full_short, is-below, long-last, long-rest, made_if, made_stays, makes_room, oldest-one, oldest_out_keeps}
 use Rattle.spool_file.specs.Slot.{Message}
 use Rattle.trace_log.specs.Log.{Happening}
 use Rattle.trace_log.specs.Log.Happening.{Discarded, Gone, Leaving, TooLong}
@@ -25,10 +27,12 @@ use Rattle.spool_works.specs.Found.{found_in}
 use Rattle.tool_step.specs.Equipment.{settled_list}
 use Rattle.spool_works.specs.WorkLosses.{MayLeaveAt}
 use Rattle.spool_works.specs.DiskWorks.{DiskWork}
-use Rattle.spool_works.proofs.FoundLosses.{found-behind, found-long}
+use Rattle.spool_works.proofs.FoundLosses.{found-behind}
 use Rattle.tool_spool.specs.InPairs.{IsOfOne}
 use Rattle.tool_spool.specs.LeavesInStep.{MayChangeInStep, MayLeaveInStep}
 use Rattle.tool_spool.specs.MadeRoom.{IsRoomUsed, IsUsedBy, made_for}
+use Rattle.tool_spool.specs.SpoolKept.{sizes_of}
+use Rattle.tool_spool.proofs.EvenRuns.{IsEvenRun, run-below, run-first, run-last, run-rest, run-taken}
 use Rattle.tool_spool.proofs.FromStarts.{KeepsOn}
 use Rattle.tool_spool.proofs.PairedLines.{AreTold, told-more, told-none, told-work}
 use Rattle.tool_law.proofs.WorkLines.{AreLines, LeavesStanding, lines-more, lines-none, lines-work, quiet-change}
@@ -42,29 +46,6 @@ found-rest (x ∷ list) = refl
 drop-all : {X : Type 0} (xs : List X) → drop (length xs) xs ≡ []
 drop-all [] = refl
 drop-all (x ∷ xs) = drop-all xs
-
-pub run-last :
-    (n : ℕ) (list : List Message) (m : Message) → IsRunFrom n list → m.number ≡ n + length list
-    → IsRunFrom n (list ++ m ∷ [])
-run-last n [] m run is = (omega (arith, is), tt)
-run-last n (x ∷ list) m run is = (run.0, run-last (n + 1) list m run.1 (omega (arith, is)))
-
-pub run-rest : (n : ℕ) (list : List Message) → IsRunFrom n list → IsRunFrom (n + 1) (drop 1 list)
-run-rest n [] run = tt
-run-rest n (m ∷ list) run = run.1
-
-run-below :
-    (n : ℕ) (list : List Message) → IsRunFrom n list → (one : ℕ × Spooled) → Has (found_in list) one
-    → one.0 < n + length list
-run-below n [] run one has = absurd has
-run-below n (m ∷ list) run one (inl same) =
-    let number = ap (λ (x : ℕ × Spooled). x.0) same in let first = run.0 in omega (arith, number, first)
-run-below n (m ∷ list) run one (inr has) =
-    let below = run-below (n + 1) list run.1 one has in omega (arith, below)
-
-run-first : (n : ℕ) (list : List Message) → IsRunFrom n list → 0 < length list → IsFirst (found_in list) n
-run-first n [] run some = absurd (omega (arith, some))
-run-first n (m ∷ list) run some = run.0
 
 -- a work more does to the list what the others have made of it
 lists-more :
@@ -90,8 +71,8 @@ pub record IsShelvedSo (Closed : List Happening → Type 0)
   pub kept : KeepsOn policy notes
   pub rest : IsAtRest (shelf_of notes)
   pub stands : (shelf_of notes).stands ≡ found_in (settled_list v list)
-  pub run : IsRunFrom v.first (settled_list v list)
-  pub long : length (settled_list v list) ≡ v.len
+  pub run : IsEvenRun v.first (settled_list v list)
+  pub long : length (settled_list v list) ≡ length v.sizes
   pub lines : AreLines v list base notes
   pub told : AreTold v list base notes
   pub closed : Closed notes
@@ -161,6 +142,19 @@ quiet-in-step policy (Change.HasGone number) notes leaves = absurd leaves
 some-inj : {X : Type 0} (x y : X) → Some x ≡ Some y → x ≡ y
 some-inj x y same = cc
 
+-- there is room for a message that is short enough where it and all that stand take no more slots than there are
+pub record CountsSlots (policy : Policy) (slots : ℕ) : Type 0 where
+  pub room : (stands : List (ℕ × Spooled)) (message : Spooled) → length message.body ≤ 4081
+      → sum (sizes_of stands) + size_of message ≤ slots → policy.has_room stands message ≡ true
+  pub full : (stands : List (ℕ × Spooled)) (message : Spooled) → slots < sum (sizes_of stands) + size_of message
+      → policy.has_room stands message ≡ false
+
+-- the policy lets the oldest be overwritten, also behind each removal for the message
+pub record MayOverwrite (policy : Policy) (message : Spooled) (Open : List Happening → Type 0) : Type 0 where
+  pub says : (notes : List Happening) → Open notes → policy.overwrites notes ≡ true
+  pub goes_on : (number : ℕ) (notes : List Happening) → Open notes
+      → Open (Gone number ∷ Leaving number cause.Overwritten (Some message) ∷ notes)
+
 module _ (policy : Policy) where
   -- ---- a note of something else
 
@@ -214,8 +208,18 @@ module _ (policy : Policy) where
 
   -- ---- a message is put
 
+  -- all that stand take as many slots as the ledger has it
+  taken-is :
+      (Closed : List Happening → Type 0) (v : LedgerView) (list : List Message) (base notes : List Happening)
+      → IsLedger v → IsShelvedSo Closed policy v list base notes
+      → sum (sizes_of (shelf_of notes).stands) ≡ sum v.sizes
+  taken-is Closed v list base notes is so =
+      ap (λ (stands : List (ℕ × Spooled)). sum (sizes_of stands)) so.stands
+      ∙ run-taken v.first (settled_list v list) so.run ∙ so.long ∙ sym (even-sum v.sizes is.even)
+
   module _ (v : LedgerView) (list : List Message) (base notes : List Happening) (message : Spooled)
-      (is : IsLedger v) (shelved : IsShelvedFor (Some message) policy v list base notes)
+      (is : IsLedger v) (counts : CountsSlots policy v.slots) (fits : room_for v (length message.body) ≡ room.Fits)
+      (shelved : IsShelvedFor (Some message) policy v list base notes)
     where
       abbrev numbered : Message
       numbered = record {
@@ -241,7 +245,13 @@ module _ (policy : Policy) where
                   let below = run-below v.first (settled_list v list) shelved.run one
                   (subst (λ (all : List (ℕ × Spooled)). Has all one) shelved.stands has) in
                   let long = shelved.long in
-                  omega (arith, below, long);
+                  let even = even-sum v.sizes is.even in
+                  omega (arith, below, long, even);
+              room =
+                  let taken = taken-is (IsMadeFor (Some message)) v list base notes is shelved in
+                  let free = fits_free v (length message.body) fits in
+                  counts.room (shelf_of notes).stands message (fits_short v (length message.body) fits)
+                  (omega (arith, taken, free));
             },
             shelved.closed,
             tt,
@@ -253,12 +263,13 @@ module _ (policy : Policy) where
             ap (λ (all : List (ℕ × Spooled)). all ++ (next_of v, message) ∷ []) shelved.stands
             ∙ sym (found-behind (settled_list v list) numbered) ∙ ap found_in (sym put-list);
         run =
-            subst (IsRunFrom v.first) (sym put-list)
+            subst (IsEvenRun v.first) (sym put-list)
             (run-last v.first (settled_list v list) numbered shelved.run
-            (let long = shelved.long in omega (arith, long)));
+            (let long = shelved.long in let even = even-sum v.sizes is.even in omega (arith, long, even))
+            (fits_one v (length message.body) fits));
         long =
             ap length put-list ∙ length-append (settled_list v list) (numbered ∷ [])
-            ∙ ap (λ (n : ℕ). n + 1) shelved.long;
+            ∙ ap (λ (n : ℕ). n + 1) shelved.long ∙ sym (long-last v.sizes (size_of message));
         lines =
             lines-work v (put message v).next list base notes
             (work.Put message.stream message.function message.body) (Happening.Storing (next_of v) message)
@@ -275,10 +286,13 @@ module _ (policy : Policy) where
 
   module _ (v : LedgerView) (list : List Message) (base notes : List Happening) (why : Cause)
       (for_one : Option Spooled) (is : IsLedger v) (shelved : IsShelvedFor for_one policy v list base notes)
-      (some : 0 < v.len)
+      (some : 0 < length v.sizes)
     where
       out-list : settled_list (oldest_out why for_one v).next list ≡ drop 1 (settled_list v list)
-      out-list = settled-more v list work.DropOldest is
+      out-list = settled-more v list (work.DropOldest (oldest_of v.sizes)) is
+
+      one : oldest_of v.sizes ≡ 1
+      one = oldest-one v.sizes is.even some
 
       pub first-listed : IsFirst (found_in (settled_list v list)) v.first
       first-listed =
@@ -300,7 +314,7 @@ module _ (policy : Policy) where
           why ≢ cause.Purged → MayLeaveFor policy notes why for_one → MayLeaveInStep policy notes v.first why
           → IsShelvedFor for_one policy (oldest_out why for_one v).next list base
           (noted_behind (oldest_out why for_one v).lines notes)
-      out-shelved one may in_step = record {
+      out-shelved alone may in_step = record {
         kept = inr (
           record { cause = why; is = refl; first = first-is },
           inl tt,
@@ -314,25 +328,30 @@ module _ (policy : Policy) where
         );
         rest = record { none_stored = shelved.rest.none_stored; none_leaves = refl };
         stands =
-            ap (λ (n : ℕ). drop n (shelf_of notes).stands) (one-leaves why one (length (shelf_of notes).stands))
+            ap (λ (n : ℕ). drop n (shelf_of notes).stands) (one-leaves why alone (length (shelf_of notes).stands))
             ∙ ap (drop 1) shelved.stands ∙ found-rest (settled_list v list) ∙ ap found_in (sym out-list);
         run =
-            subst (IsRunFrom (v.first + 1)) (sym out-list) (run-rest v.first (settled_list v list) shelved.run);
-        long = ap length out-list ∙ less (settled_list v list) v.len shelved.long;
+            subst (λ (n : ℕ). IsEvenRun (v.first + n) (settled_list (oldest_out why for_one v).next list)) (sym one)
+            (subst (IsEvenRun (v.first + 1)) (sym out-list) (run-rest v.first (settled_list v list) shelved.run));
+        long =
+            ap length out-list ∙ less (settled_list v list) (length v.sizes) shelved.long
+            ∙ sym (long-rest v.sizes);
         lines =
-            lines-work v (oldest_out why for_one v).next list base notes work.DropOldest (Leaving v.first why for_one)
+            lines-work v (oldest_out why for_one v).next list base notes (work.DropOldest (oldest_of v.sizes))
+            (Leaving v.first why for_one)
             (Gone v.first) is refl refl refl refl
-            (record { stands = shelved.stands; storing = shelved.rest.none_stored; leaving = by why one })
+            (record { stands = shelved.stands; storing = shelved.rest.none_stored; leaving = by why alone })
             shelved.lines;
         told =
-            told-work v (oldest_out why for_one v).next list base notes work.DropOldest (Leaving v.first why for_one)
+            told-work v (oldest_out why for_one v).next list base notes (work.DropOldest (oldest_of v.sizes))
+            (Leaving v.first why for_one)
             (Gone v.first) is refl refl refl
             (record {
               number = v.first;
               why = why;
               room_for = for_one;
               first = first-listed;
-              cause_is = of-one why one;
+              cause_is = of-one why alone;
               before_is = refl;
               behind_is = refl;
             })
@@ -340,7 +359,7 @@ module _ (policy : Policy) where
         closed = inr refl;
       }
         where
-          by : (why : Cause) → why ≢ cause.Purged → MayLeaveAt (DiskWork.Change work.DropOldest) (Some why)
+          by : (why : Cause) → why ≢ cause.Purged → MayLeaveAt (DiskWork.Change (work.DropOldest (oldest_of v.sizes))) (Some why)
           by cause.Confirmed not = inl refl
           by cause.Purged not = absurd (not refl)
           by cause.Overwritten not = inr refl
@@ -356,7 +375,7 @@ module _ (policy : Policy) where
       (is : IsLedger v) (shelved : IsShelved policy v list base notes)
     where
       abbrev emptied : LedgerView
-      emptied = record v { first = v.first + v.len; len = 0; works = owed v work.Purge }
+      emptied = record v { first = next_of v; sizes = []; works = owed v work.Purge }
 
       shelved-none : IsShelvedFor None policy v list base notes
       shelved-none = shelved-for None policy v list base notes shelved
@@ -365,12 +384,12 @@ module _ (policy : Policy) where
       some-left len none = grind (arith, nat_tests, none)
 
       pub all-shelved :
-          (0 < v.len → MayLeaveFor policy notes cause.Purged None)
-          → (0 < v.len → MayLeaveInStep policy notes v.first cause.Purged)
+          (0 < length v.sizes → MayLeaveFor policy notes cause.Purged None)
+          → (0 < length v.sizes → MayLeaveInStep policy notes v.first cause.Purged)
           → IsShelved policy (all_out v).next list base (noted_behind (all_out v).lines notes)
-      all-shelved may in_step = go (v.len == 0) refl
+      all-shelved may in_step = go (length v.sizes == 0) refl
         where
-          go : (none : Bool) → (v.len == 0) ≡ none
+          go : (none : Bool) → (length v.sizes == 0) ≡ none
               → IsShelved policy
               (if none then quiet v
               else record { next = emptied; lines = Leaving v.first cause.Purged None ∷ Gone v.first ∷ [] }).next
@@ -384,24 +403,24 @@ module _ (policy : Policy) where
               record {
                 cause = cause.Purged;
                 is = refl;
-                first = first-is v list base notes cause.Purged None is shelved-none (some-left v.len e);
+                first = first-is v list base notes cause.Purged None is shelved-none (some-left (length v.sizes) e);
               },
               inl tt,
               tt,
               inr (
                 record {
                   rest = shelved.rest;
-                  first = first-is v list base notes cause.Purged None is shelved-none (some-left v.len e);
-                  cause = may (some-left v.len e);
+                  first = first-is v list base notes cause.Purged None is shelved-none (some-left (length v.sizes) e);
+                  cause = may (some-left (length v.sizes) e);
                 },
                 inl shelved.closed,
-                in_step (some-left v.len e),
+                in_step (some-left (length v.sizes) e),
                 shelved.kept,
               ),
             );
             rest = record { none_stored = shelved.rest.none_stored; none_leaves = refl };
             stands = drop-all (shelf_of notes).stands ∙ ap found_in (sym (settled-more v list work.Purge is));
-            run = subst (IsRunFrom (v.first + v.len)) (sym (settled-more v list work.Purge is)) tt;
+            run = subst (IsEvenRun (next_of v)) (sym (settled-more v list work.Purge is)) tt;
             long = ap length (settled-more v list work.Purge is);
             lines =
                 lines-work v emptied list base notes work.Purge (Leaving v.first cause.Purged None) (Gone v.first) is refl
@@ -414,7 +433,7 @@ module _ (policy : Policy) where
                   number = v.first;
                   why = cause.Purged;
                   room_for = None;
-                  first = first-listed v list base notes cause.Purged None is shelved-none (some-left v.len e);
+                  first = first-listed v list base notes cause.Purged None is shelved-none (some-left (length v.sizes) e);
                   cause_is = tt;
                   before_is = refl;
                   behind_is = refl;
@@ -426,49 +445,84 @@ module _ (policy : Policy) where
   -- ---- one comes, in place of the oldest in a full spool
 
   module _ (v : LedgerView) (list : List Message) (base notes : List Happening) (message : Spooled)
-      (is : IsLedger v) (shelved : IsShelved policy v list base notes)
+      (is : IsLedger v) (counts : CountsSlots policy v.slots) (shelved : IsShelved policy v list base notes)
     where
-      all-used : (long spent full : Bool) →
-          (if long then room.TooLong else
-          (if spent then room.NumbersSpent else (if full then room.Full else room.Fits)))
-          ≡ room.Full → full ≡ true
-      all-used true spent full fits = absurd (grind (arith, fits))
-      all-used false true full fits = absurd (grind (arith, fits))
-      all-used false false true fits = refl
-      all-used false false false fits = absurd (grind (arith, fits))
+      -- such notes may be followed by removals for the message, each where the policy says so
+      module _ (Open : List Happening → Type 0) (opened : MayOverwrite policy message Open)
+          (short : length message.body ≤ 4081) where
+        room-shelved :
+            (sizes : List ℕ) (w : LedgerView) (ns : List Happening) → sizes ≡ w.sizes → IsLedger w → w.slots ≡ v.slots
+            → size_of message ≤ w.slots → Open ns → IsShelvedFor (Some message) policy w list base ns
+            → IsShelvedFor (Some message) policy (room_made (size_of message) (Some message) sizes w).next list base
+            (noted_behind (room_made (size_of message) (Some message) sizes w).lines ns)
+        room-shelved [] w ns same good slots fits open_now so = so
+        room-shelved (oldest ∷ sizes) w ns same good slots fits open_now so =
+            let some = full-some w same in
+            go (is_full w.slots w.sizes (size_of message)) refl
+            (room-shelved sizes (oldest_out cause.Overwritten (Some message) w).next
+            (Gone w.first ∷ Leaving w.first cause.Overwritten (Some message) ∷ ns) (ap (drop 1) same)
+            (oldest_out_keeps w (owed w (work.DropOldest (oldest_of w.sizes))) good some refl) slots fits
+            (opened.goes_on w.first ns open_now))
+          where
+            full-some : (u : LedgerView) → oldest ∷ sizes ≡ u.sizes → 0 < length u.sizes
+            full-some u are = let long = ap (λ (all : List ℕ). length all) are in omega (arith, long)
 
-      -- where all slots are used and it may be overwritten, the policy says so
-      abbrev Overwrites : Bool → Type 0
-      Overwrites overwriting =
-          overwriting ≡ true → (length (shelf_of notes).stands == v.slots) ≡ true
-          → policy.overwrites notes (shelf_of notes).stands message ≡ true
+            less : LedgerView
+            less = (oldest_out cause.Overwritten (Some message) w).next
+
+            told_less : List Happening
+            told_less = Gone w.first ∷ Leaving w.first cause.Overwritten (Some message) ∷ ns
+
+            go : (full : Bool) → is_full w.slots w.sizes (size_of message) ≡ full
+                → (IsShelvedFor (Some message) policy less list base told_less
+                → IsShelvedFor (Some message) policy (room_made (size_of message) (Some message) sizes less).next list base
+                (noted_behind (room_made (size_of message) (Some message) sizes less).lines told_less))
+                → IsShelvedFor (Some message) policy (made_if (size_of message) (Some message) full sizes w).next list base
+                (noted_behind (made_if (size_of message) (Some message) full sizes w).lines ns)
+            go true e rest =
+                let taken = taken-is (IsMadeFor (Some message)) w list base ns good so in
+                let over = is-below w.slots (sum w.sizes + size_of message) e in
+                rest (out-shelved w list base ns cause.Overwritten (Some message) good so (full-some w same)
+                (λ e2. absurd (grind (arith, e2)))
+                (record {
+                  full = counts.full (shelf_of ns).stands message (omega (arith, taken, over, slots));
+                  fits = counts.room [] message short (omega (arith, fits, slots));
+                  overwrites = opened.says ns open_now;
+                })
+                tt)
+            go false e rest = so
+
+      abbrev Overwrites : (List Happening → Type 0) → Bool → Type 0
+      Overwrites Open overwriting = overwriting ≡ true → MayOverwrite policy message Open
 
       pub stored-shelved :
-          (overwriting : Bool) (booked : Booked) → Overwrites overwriting → stored overwriting message v ≡ Some booked
+          (Open : List Happening → Type 0) → Open notes → (overwriting : Bool) (booked : Booked)
+          → Overwrites Open overwriting → stored overwriting message v ≡ Some booked
           → IsShelved policy booked.next list base (noted_behind booked.lines notes)
-      stored-shelved overwriting booked may same = go (room_for v (length message.body)) overwriting refl may same
+      stored-shelved Open open_now overwriting booked may same =
+          go (room_for v (length message.body)) overwriting refl may same
         where
-          go : (r : Room) (overwriting : Bool) → room_for v (length message.body) ≡ r → Overwrites overwriting
+          roomy : LedgerView
+          roomy = (with_room message v).next
+
+          go : (r : Room) (overwriting : Bool) → room_for v (length message.body) ≡ r → Overwrites Open overwriting
               → stored_by r overwriting message v ≡ Some booked
               → IsShelved policy booked.next list base (noted_behind booked.lines notes)
           go room.Fits overwriting e may same =
               subst (λ (b : Booked). IsShelved policy b.next list base (noted_behind b.lines notes)) (some-inj _ _ same)
-              (put-shelved v list base notes message is
+              (put-shelved v list base notes message is counts e
               (shelved-for (Some message) policy v list base notes shelved))
           go room.Full true e may same =
-              let full =
-              all-used (nat_lt 4081 (length message.body)) (nat_le (2 ^ 63) (next_of v)) (v.len == v.slots) e in
-              let long = ap length shelved.stands ∙ found-long (settled_list v list) ∙ shelved.long in
-              let some = full_has_some v (length message.body) is e in
-              let one : Option Spooled = Some message in
-              let out =
-              out-shelved v list base notes cause.Overwritten one is (shelved-for one policy v list base notes shelved)
-              some (λ e2. absurd (grind (arith, e2)))
-              (may refl (ap (λ (n : ℕ). n == v.slots) long ∙ full)) tt in
+              let fits = full_fits v (length message.body) e in
               subst (λ (b : Booked). IsShelved policy b.next list base (noted_behind b.lines notes)) (some-inj _ _ same)
-              (put-shelved (oldest_out cause.Overwritten one v).next list base
-              (noted_behind (oldest_out cause.Overwritten one v).lines notes) message
-              (oldest_out_keeps v (owed v work.DropOldest) is some refl) out)
+              (subst (IsShelved policy (put message roomy).next list base)
+              (sym (behind-both (with_room message v).lines (put message roomy).lines notes))
+              (put-shelved roomy list base (noted_behind (with_room message v).lines notes) message
+              (made_comes (size_of message) (Some message) v.sizes v is refl).is
+              (subst (CountsSlots policy) (sym (made_stays (size_of message) (Some message) v.sizes v).0) counts)
+              (makes_room v message is e)
+              (room-shelved Open (may refl) (full_short v (length message.body) e) v.sizes v notes refl is refl fits.0 open_now
+              (shelved-for (Some message) policy v list base notes shelved))))
           go room.Full false e may same =
               subst (λ (b : Booked). IsShelved policy b.next list base (noted_behind b.lines notes)) (some-inj _ _ same)
               (noted-shelved v list base notes (Discarded (spooled_name message)) tt tt shelved)

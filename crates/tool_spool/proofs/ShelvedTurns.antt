@@ -87,7 +87,7 @@ module _ (plan : EquipmentPlan) (slots : ℕ) (list : List Put) (base before : L
 
   -- what the disk has
   abbrev pub count_at : Stand → Count
-  count_at at = record { slots = slots; next = at.first + at.len; len = at.len }
+  count_at at = record { slots = slots; next = at.next; len = at.len }
 
   -- where the numbers are spent the notes keep the law all the same, and go with what is owed, and each work finds
   -- room, or its message
@@ -107,7 +107,7 @@ module _ (plan : EquipmentPlan) (slots : ℕ) (list : List Put) (base before : L
     told = shelved.told;
     closed = shelved.closed;
     due =
-        subst (λ (n : ℕ). AreDue (record { slots = n; next = v.stood.first + v.stood.len; len = v.stood.len }) v.works)
+        subst (λ (n : ℕ). AreDue (record { slots = n; next = v.stood.next; len = v.stood.len }) v.works)
         all is.due;
   }
 

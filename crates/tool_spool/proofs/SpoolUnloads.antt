@@ -47,7 +47,7 @@ pub record IsNext (most : ℕ) (v : LedgerView) (number : ℕ) : Type 0 where
   pub is : v.unload ≡ Some unload
   pub tried : unload.tried ≡ None
   pub first : number ≡ v.first
-  pub some : 0 < v.len
+  pub some : 0 < length v.sizes
   pub kept : unload_next most v v.unload ≡ Some unload
 
 pub next-is : (most : ℕ) (v : LedgerView) (number : ℕ) → next_unloaded most v ≡ Some number → IsNext most v number
@@ -70,7 +70,7 @@ next-is most v number is = go v.unload refl is
       is = same;
       tried = e;
       first = sym (inj v.first number is);
-      some = left v.len (nat_lt 0 most && nat_le most unload.confirmed) o;
+      some = left (length v.sizes) (nat_lt 0 most && nat_le most unload.confirmed) o;
       kept =
           ap (λ (u : Option Unload). unload_next most v u) same
           ∙ ap (λ (b : Bool). if is_none unload.tried && b then None else Some unload) o
@@ -221,7 +221,7 @@ module _ (plan : EquipmentPlan) (slots : ℕ) (list : List Put) (base before : L
   tried-so :
       (own : OwnView) (unload : Unload) (message : Spooled) (system : ℕ) (oldest : Put) (rest : List Put)
       (step : CoreStep)
-      → own.ledger.unload ≡ Some unload → 0 < own.ledger.len → settled_list own.ledger list ≡ oldest ∷ rest
+      → own.ledger.unload ≡ Some unload → 0 < length own.ledger.sizes → settled_list own.ledger list ≡ oldest ∷ rest
       → spooled_of oldest ≡ message → system < step.next.numbers.next → unloads_in step.next.transactions.begun ≡ []
       → step.next.drawn ≡ Some system → ShelvesAt plan slots list base before own step
       → IsTried (taken_own system message own) message system (noted Some (Try own.ledger.first system) step)
@@ -310,7 +310,7 @@ module _ (plan : EquipmentPlan) (slots : ℕ) (list : List Put) (base before : L
   -- a number is drawn, and the message goes
   taken-keeps :
       (own : OwnView) (unload : Unload) (message : Spooled) (oldest : Put) (rest : List Put) (e : EndView Kind)
-      (step : CoreStep) → own.ledger.unload ≡ Some unload → unload.tried ≡ None → 0 < own.ledger.len
+      (step : CoreStep) → own.ledger.unload ≡ Some unload → unload.tried ≡ None → 0 < length own.ledger.sizes
       → settled_list own.ledger list ≡ oldest ∷ rest → spooled_of oldest ≡ message
       → is_crowded_out true e ≡ is_crowded_out true step.next → ShelvesAt plan slots list base before own step
       → (spent : Bool) → (step.next.numbers.next == step.next.numbers.end) ≡ spent
@@ -385,7 +385,7 @@ module _ (plan : EquipmentPlan) (slots : ℕ) (list : List Put) (base before : L
       stopped system = step_in (carry Some (Remove true system) step)
 
       takes : (number : ℕ) → IsNext most own.ledger number → (message : Spooled) (found : List Put)
-          → settled_list own.ledger list ≡ found → length found ≡ own.ledger.len
+          → settled_list own.ledger list ≡ found → length found ≡ length own.ledger.sizes
           → Some message ≡ option_map spooled_of (slice_get found 0)
           → TurnEnds plan slots list base before (taking_turn (Some number) (Some message) on step.next) step
       takes number next message [] same long of = let some = next.some in absurd (omega (arith, long, some))

@@ -1,5 +1,5 @@
 -- What a message keeps of the spool as it is noted, while it is taken up and goes out.
-use Rattle.std.proofs.Common.{◌≡◌, refl, sym, ap, subst, ◌∙◌, inl, inr, ◌⊎◌, arith, ◌<◌, ◌+◌, ◌==◌, Bool, true, false, ℕ, List, [], ◌∷◌, ◌++◌, Option, Some, None, if◌then◌else◌}
+use Rattle.std.proofs.Common.{◌≡◌, refl, sym, ap, subst, ◌∙◌, inl, inr, ◌⊎◌, arith, ◌<◌, ◌+◌, ◌==◌, Bool, true, false, ℕ, List, [], ◌∷◌, ◌++◌, Option, Some, None, if◌then◌else◌, length}
 use Rattle.std.specs.Option.{option_map}
 use Rattle.block_codec.specs.declared.header.Header.{Header}
 use Rattle.trace_log.specs.Log.{Happening}
@@ -112,7 +112,7 @@ module _ (plan : EquipmentPlan) (slots : ℕ) (list : List Put) (base before : L
   -- the unload changes, and no message is under way before or behind it
   pub unload-keeps :
       (own : OwnView) (w : LedgerView) (core : EndView Kind) (notes : List Happening) → IsLedger w
-      → w.slots ≡ own.ledger.slots → w.first ≡ own.ledger.first → w.len ≡ own.ledger.len
+      → w.slots ≡ own.ledger.slots → w.first ≡ own.ledger.first → w.sizes ≡ own.ledger.sizes
       → OwesAs plan slots list base own.ledger w
       → IsOpen (tried_in w.unload) w.first (shelf_of notes) core.drawn (unloads_in core.transactions.begun)
       → Shelves plan slots list base before own core notes → Shelves plan slots list base before (with_ledger w own)
@@ -142,7 +142,7 @@ module _ (plan : EquipmentPlan) (slots : ℕ) (list : List Put) (base before : L
   -- the oldest message is to go out with system bytes that were drawn
   pub try-keeps :
       (own : OwnView) (system : ℕ) (waiting : Option (List ℕ)) (oldest : Put) (rest : List Put) (core : EndView Kind)
-      (notes : List Happening) → 0 < own.ledger.len → settled_list own.ledger list ≡ oldest ∷ rest
+      (notes : List Happening) → 0 < length own.ledger.sizes → settled_list own.ledger list ≡ oldest ∷ rest
       → system < core.numbers.next → unloads_in core.transactions.begun ≡ []
       → MayGo waiting system (shelf_of (Try own.ledger.first system ∷ notes)).told core.drawn []
       → Shelves plan slots list base before own core notes

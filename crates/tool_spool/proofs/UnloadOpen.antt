@@ -381,7 +381,7 @@ last-tried v shelf drawn opened header is has oldest = go (tried_in v.unload) is
         }
 
     go : (under : Option UnderWay) → IsOpen under v.first shelf drawn opened
-        → (nat_lt 0 v.len && is_numbered v.first under) ≡ true
+        → (nat_lt 0 (length v.sizes) && is_numbered v.first under) ≡ true
         → IsLastTried v shelf header
-    go None is oldest = absurd (let e = numbered v.len false oldest in cc)
-    go (Some under) is oldest = stands under is (numbered v.len (under.number == v.first) oldest) is.stands
+    go None is oldest = absurd (let e = numbered (length v.sizes) false oldest in cc)
+    go (Some under) is oldest = stands under is (numbered (length v.sizes) (under.number == v.first) oldest) is.stands

@@ -64,7 +64,7 @@ pub record TellsLeaving (list : List Message) (IsCause : Cause → Type 0) (befo
 abbrev pub TellsOf : ℕ → List Message → Work → (before behind : Change) → Type 0
 TellsOf next list (work.Put stream function body) before behind =
     (before ≡ Stores next (record { stream = stream; function = function; body = body })) × (behind ≡ HasStored next)
-TellsOf next list work.DropOldest before behind = TellsLeaving list IsOfOne before behind
+TellsOf next list (work.DropOldest slots) before behind = TellsLeaving list IsOfOne before behind
 TellsOf next list work.Purge before behind = TellsLeaving list IsOfAll before behind
 
 -- works and pairs of lines, one by one

@@ -1,5 +1,5 @@
 -- That the equipment keeps the law of its spool over its notes.
-use Rattle.std.specs.Prelude.{◌≡◌, ◌<◌, ◌≤◌, ◌+◌, ◌&&◌, ◌==◌, ◌^◌, ℕ, Bool, true, false, List, [], ◌∷◌, length, Option, Some}
+use Rattle.std.specs.Prelude.{◌≡◌, ◌<◌, ◌≤◌, ◌+◌, ◌&&◌, ◌^◌, nat_le, ℕ, Bool, true, false, List, [], ◌∷◌, length, map, sum, Option, Some}
 use Rattle.gem_shapes.specs.declared.request.Request.{Request}
 use Rattle.gem_shapes.specs.declared.request.Request.TheVariants as request
 use Rattle.trace_log.specs.declared.commands.ToolCommand.{ToolCommand}
@@ -8,7 +8,8 @@ use Rattle.spool_law.specs.Shelf.{Change, KeepsSpool, MayChange, Policy, change_
 use Rattle.spool_law.specs.Shelf.Change.{Finds}
 use Rattle.spool_file.specs.File.{SpoolFile}
 use Rattle.spool_file.specs.Format.{empty_file}
-use Rattle.spool_file.specs.Run.{IsRunFrom}
+use Rattle.spool_ledger.specs.Ledger.{size_of}
+use Rattle.spool_file.specs.Run.{IsChainFrom}
 use Rattle.spool_works.specs.Found.{first_in, found_in}
 use Rattle.trace_log.specs.Log.{Happening}
 use Rattle.trace_log.specs.Names.{Spooled}
@@ -28,19 +29,26 @@ abbrev pub is_purge : Option Request → Bool
 is_purge (Some request.PurgeSpool) = true
 is_purge _ = false
 
--- OverWriteSpool as it is looked back for, where all slots are used (SEMI E30, spooling)
+-- how many slots each message takes that stands
+abbrev pub sizes_of : List (ℕ × Spooled) → List ℕ
+sizes_of stands = map (λ one. size_of one.1) stands
+
+-- a slot holds 4,081 bytes, and a body has one slot; there is room for it where it and all that stand take no more slots
+-- than there are; and OverWriteSpool is looked back for (SEMI E30, spooling)
 abbrev pub policy_of : EquipmentPlan → ℕ → Policy
 policy_of plan slots = record {
   purges = λ message. is_purge (request_of message.stream message.function message.body);
-  overwrites = λ notes stands message. (length stands == slots) && overwrites (tables_in plan notes);
+  has_room = λ stands message.
+      nat_le (length message.body) 4081 && nat_le (sum (sizes_of stands) + size_of message) slots;
+  overwrites = λ notes. overwrites (tables_in plan notes);
 }
 
 -- ---- over a file of an earlier run
 
--- what a file may hold as the equipment starts over it: as many messages as slots at most, numbered one after
--- the other, each of which can be sent; and the floor has the same bound as their numbers (this profile)
+-- what a file may hold as the equipment starts over it: as many messages as slots at most, numbered one after the other,
+-- each of which takes one slot and can be sent; and the floor has the same bound as their numbers (this profile)
 pub record MayHold (file : SpoolFile) : Type 0 where
-  pub run : IsRunFrom (first_in file) file.list
+  pub run : IsChainFrom (first_in file) (first_in file + length file.list) file.list
   pub room : length file.list ≤ file.slots
   pub bound : first_in file + length file.list ≤ 2 ^ 63 + 65535
   pub floor : file.floor.value ≤ 2 ^ 63 + 65535

@@ -21,7 +21,7 @@ Tell oldest works lines = AreInPairs 8 (standing oldest) works (changes_in lines
 
 -- it is put in place of the oldest, which is overwritten
 abbrev pub put_over : ℕ → List ℕ → List Work
-put_over function body = work.DropOldest ∷ work.Put 6 function body ∷ []
+put_over function body = (work.DropOldest 1) ∷ work.Put 6 function body ∷ []
 
 abbrev pub over_lines : ℕ → List ℕ → List Happening
 over_lines function body =
@@ -50,7 +50,7 @@ pub record TellsEachWork : Type 0 where
   -- a purge has no line; there are the lines of a purge without a purge, and in place of a drop
   pub silent : (oldest : Message) → Tell oldest (work.Purge ∷ []) [] → ⊥
   pub empty : (oldest : Message) → Tell oldest [] purge_lines → ⊥
-  pub all_for_one : (oldest : Message) → Tell oldest (work.DropOldest ∷ []) purge_lines → ⊥
+  pub all_for_one : (oldest : Message) → Tell oldest (work.DropOldest 1 ∷ []) purge_lines → ⊥
   -- a put is told under the number that stands, or as another message
   pub again :
       (oldest : Message) (function : ℕ) (body : List ℕ)
@@ -60,4 +60,4 @@ pub record TellsEachWork : Type 0 where
       → Tell oldest (work.Put 6 11 body ∷ []) (put_lines 8 (report 1 body)) → ⊥
   -- it leaves and is never gone
   pub undone :
-      (oldest : Message) → Tell oldest (work.DropOldest ∷ []) (Happening.Leaving 7 cause.Confirmed None ∷ []) → ⊥
+      (oldest : Message) → Tell oldest (work.DropOldest 1 ∷ []) (Happening.Leaving 7 cause.Confirmed None ∷ []) → ⊥

@@ -173,7 +173,7 @@ fn call(
 fn letter(work: &Work) -> u8 {
     match work {
         Work::Put { .. } => b'P',
-        Work::DropOldest => b'D',
+        Work::DropOldest { .. } => b'D',
         Work::Purge => b'A',
     }
 }
@@ -216,18 +216,26 @@ fn all_go(alloc: Global, ledger: &mut Ledger, askings: &[Asking]) -> bool {
 }
 
 fn overwrites(alloc: Global) -> bool {
-    let mut ledger = Ledger::new(alloc, 3, 0, 0);
+    let Ok(mut ledger) = Ledger::new(alloc, 3, 0, 0) else {
+        return false;
+    };
     all_go(alloc, &mut ledger, &ROWS) && all_go(alloc, &mut ledger, &LATER)
 }
 
 fn is_emptied(alloc: Global) -> bool {
-    let mut ledger = Ledger::new(alloc, 3, 5, 2);
+    let Ok(mut ledger) = Ledger::new(alloc, 3, 5, 2) else {
+        return false;
+    };
     all_go(alloc, &mut ledger, &FOUND) && all_go(alloc, &mut ledger, &EMPTIED)
 }
 
 fn ends(alloc: Global) -> bool {
-    let mut ledger = Ledger::new(alloc, 3, 9_223_372_036_854_775_807, 0);
-    let mut spent = Ledger::new(alloc, 3, 9_223_372_036_854_775_808, 0);
+    let Ok(mut ledger) = Ledger::new(alloc, 3, 9_223_372_036_854_775_807, 0) else {
+        return false;
+    };
+    let Ok(mut spent) = Ledger::new(alloc, 3, 9_223_372_036_854_775_808, 0) else {
+        return false;
+    };
     all_go(alloc, &mut ledger, &LAST) && all_go(alloc, &mut spent, &SPENT)
 }
 
@@ -253,7 +261,9 @@ static LEAVES: [Asking; 1] = [(Asked::Confirm, b"leaving 5 confirmed;gone 5;D", 
 
 // A text that waits is let go once, and its message stays under way: its reply takes it off the list.
 fn lets_go_once(alloc: Global) -> bool {
-    let mut ledger = Ledger::new(alloc, 3, 5, 2);
+    let Ok(mut ledger) = Ledger::new(alloc, 3, 5, 2) else {
+        return false;
+    };
     takes_up(alloc, &mut ledger).is_ok()
         && is_text(ledger.granted(), &[1, 0])
         && ledger.granted().is_none()
@@ -265,7 +275,9 @@ static STAYS: [Asking; 2] = [(Asked::Confirm, b"", 5, 2), (Asked::TakeUp(0), b""
 
 // An unload that ends keeps its message: a late reply removes nothing, and no other message is taken up.
 fn stays(alloc: Global) -> bool {
-    let mut ledger = Ledger::new(alloc, 3, 5, 2);
+    let Ok(mut ledger) = Ledger::new(alloc, 3, 5, 2) else {
+        return false;
+    };
     let is_taken = takes_up(alloc, &mut ledger).is_ok();
     ledger.end_unload();
     is_taken && ledger.is_active() && ledger.len() == 2 && all_go(alloc, &mut ledger, &STAYS)

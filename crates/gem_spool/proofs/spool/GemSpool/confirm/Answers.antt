@@ -11,5 +11,5 @@ returns-in-Ok-clause-list g c = λ list has. drop_list g.D.Disk c.args.self.spoo
 
 pub returns-in-Ok-clause-stands : goal.returns-in-Ok-clause-stands
 returns-in-Ok-clause-stands g c = λ st stands.
-    does_stands g.D.Disk c.args.self (record { spool = c.in-Ok.spool; active = c.args.self.active }) DropOldest st
-    stands (c.in-Ok.ensures, refl)
+    does_stands g.D.Disk c.args.self (record { spool = c.in-Ok.spool; active = c.args.self.active }) (DropOldest 1)
+    st stands (c.in-Ok.ensures, refl)
