@@ -199,8 +199,8 @@ module _ {D : Type 0} (members : disk.Ghosts D) where
             (sym (at_replicate (v.next % v.slots) put.stale))
             ∙ sym (put_calls_are by stream function body)
 
-    drop_cost : HasDropped members v after said → HasCost v (work.DropOldest 1) after said
-    drop_cost drop = record {
+    drop_cost : (slots : ℕ) → HasDropped members v after said → HasCost v (work.DropOldest slots) after said
+    drop_cost slots drop = record {
       by = found false v;
       count = found_count false v;
       cause = drop.disk.cause;
@@ -239,7 +239,7 @@ module _ {D : Type 0} (members : disk.Ghosts D) where
       HasCost g.spool one h.spool.disk Done
   does_cost g h (work.Put stream function body) done =
       put_cost g.spool h.spool.disk Done stream function body done.0
-  does_cost g h (work.DropOldest slots) done = drop_cost g.spool h.spool.disk Done done.0.0
+  does_cost g h (work.DropOldest slots) done = drop_cost g.spool h.spool.disk Done slots done.0.0
   does_cost g h work.Purge done = go done.0
     where
       go : Clears members g.spool (Ok h.spool) → HasCost g.spool work.Purge h.spool.disk Done
@@ -255,5 +255,5 @@ module _ {D : Type 0} (members : disk.Ghosts D) where
       HasCost g.spool one spent.disk Failed
   fails_cost g (work.Put stream function body) spent failed =
       put_cost g.spool spent.disk Failed stream function body failed.0
-  fails_cost g (work.DropOldest slots) spent failed = drop_cost g.spool spent.disk Failed failed.0
+  fails_cost g (work.DropOldest slots) spent failed = drop_cost g.spool spent.disk Failed slots failed.0
   fails_cost g work.Purge spent failed = purge_cost g.spool spent.disk Failed failed

@@ -1,3 +1,3 @@
 pub mod Following
 pub mod Keeping
-mod Overwriting
+pub mod Removing
