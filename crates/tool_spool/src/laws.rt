@@ -14,9 +14,9 @@ use equipment_tables::tables_are_looked_back_for;
 use tool_law::equipment_keeps_the_law;
 
 /// Over all its starts, from an empty spool on, and from whatever a file holds that it is started over, what is stored
-/// goes behind all others; what leaves is the oldest, and it leaves once the host has taken it, as the host empties the
-/// spool, or as it is overwritten in a full one; what is tried is the oldest, and goes out as it was put; and each
-/// start finds what stood.
+/// has room and goes behind all others; what leaves is the oldest, and it leaves once the host has taken it, as the host
+/// empties the spool, or as it is overwritten for one that has no room; what is tried is the oldest, and goes out as it
+/// was put; and each start finds what stood.
 pub fn spool_is_kept()
     ensures notes { SpoolIsKept }
     ensures held { SpoolIsKeptFrom }
