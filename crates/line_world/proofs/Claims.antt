@@ -64,8 +64,13 @@ module _ (plans : Plans) (schedule : Schedule) (fit : PlansFit plans) (laws : La
 
     -- the disk of a run is new
     none : MayHold (empty_file plans.slots)
-    none =
-        record { run = refl; room = omega arith; bound = omega arith; floor = omega arith; sent = none-sent [] refl }
+    none = record {
+      run = omega arith;
+      room = omega arith;
+      bound = omega arith;
+      floor = omega arith;
+      sent = none-sent [] refl;
+    }
 
     kept : KeepsSpool (policy_of plans.equipment plans.slots) notes
     kept =

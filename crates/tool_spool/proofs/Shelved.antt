@@ -486,7 +486,9 @@ module _ (policy : Policy) where
                 (λ e2. absurd (grind (arith, e2)))
                 (record {
                   full = counts.full (shelf_of ns).stands message (omega (arith, taken, over, slots));
-                  fits = counts.room [] message short (omega (arith, fits, slots));
+                  fits =
+                      let none : sum (sizes_of []) ≡ 0 = refl in
+                      counts.room [] message short (omega (arith, none, fits, slots));
                   overwrites = opened.says ns open_now;
                 })
                 tt)
