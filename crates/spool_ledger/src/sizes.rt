@@ -82,16 +82,22 @@ impl Sizes {
         self.used -= size;
     }
 
-    /// The oldest leaves, and this was its size.
-    pub(crate) fn drop_oldest(&mut self) -> u32
+    /// How many slots the oldest takes.
+    pub(crate) fn oldest(&self) -> u32
+        requires { 0 < length self.now }
+        ensures { result ≡ oldest_of self.now }
+    {
+        u32::from(self.each[0])
+    }
+
+    /// The oldest leaves.
+    pub(crate) fn drop_oldest(&mut self)
         requires { 0 < length self.old }
-        ensures size { result ≡ oldest_of self.old }
-        ensures rest { self.new ≡ drop 1 self.old }
+        ensures { self.new ≡ drop 1 self.old }
     {
         let size = u32::from(self.each[0]);
         self.each.pop_front();
         self.used -= size;
-        size
     }
 
     /// All of them leave.

@@ -156,8 +156,9 @@ impl Ledger {
         ensures confirmed { IfOk result (λ done. confirmed_of self.new.unload < self.new.first) }
     {
         note_leaving(alloc, self.first, cause, out)?;
-        let slots = self.sizes.drop_oldest();
+        let slots = self.sizes.oldest();
         self.works.push(Work::DropOldest { slots })?;
+        self.sizes.drop_oldest();
         self.first += u64::from(slots);
         Ok(())
     }
