@@ -4,6 +4,7 @@
 
 mod answers;
 mod laws;
+mod power;
 mod putting;
 mod running;
 mod step;

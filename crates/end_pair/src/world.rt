@@ -13,7 +13,7 @@ ghost use Rattle.end_pair.specs.World.{World as WorldOf, added_to, after_event, 
 ghost use Rattle.end_pair.specs.declared.answers.WorldStep.TheVariants as answer;
 
 use crate::answers::WorldStep;
-use crate::step::{restart_end, start_end, step_end};
+use crate::step::{start_end, step_end};
 use disk_base::CutChoice;
 use gl_base::{NoMemory, Row, Side};
 use line_schedule::Event;
@@ -35,16 +35,16 @@ const MOST_SETTLED: u32 = 65_536;
 /// After a call that answers anything but `Went` nothing is said of it any more.
 #[derive(Drop)]
 pub struct World<E: End, H: End> {
-    equipment: E,
-    host: H,
-    ways: Ways,
-    moment: u64,
+    pub(crate) equipment: E,
+    pub(crate) host: H,
+    pub(crate) ways: Ways,
+    pub(crate) moment: u64,
     steps: u32,
     // which end's power goes in the next event, and at which call of its disk; whose power goes at the one at which its
     // disk is to stop; and what that leaves of the disk
-    cut: Option<(Side, u32)>,
-    is_cut: Option<Side>,
-    choice: CutChoice,
+    pub(crate) cut: Option<(Side, u32)>,
+    pub(crate) is_cut: Option<Side>,
+    pub(crate) choice: CutChoice,
 }
 
 impl<E: End, H: End> Model for World<E, H> {
@@ -216,163 +216,8 @@ impl<E: End<Command = ToolCommand>, H: End<Command = HostCommand>> World<E, H> {
         }
     }
 
-    // The next event ends the power of this end, and of no other.
-    fn plan(&mut self, side: Side, call: u32, choice: CutChoice)
-        requires { MayLose E.loses H.loses side }
-        ensures { seen E.means H.means self.new ≡ planned side call choice (seen E.means H.means self.old) }
-    {
-        self.cut = Some((side, call));
-        self.choice = choice;
-    }
-
-    // Carries out an event, at the end of which there is power again.
-    fn meet(&mut self, alloc: Global, event: &Event, lines: &mut Row<u8>) -> WorldStep
-        requires { MayHappen E.takes H.takes E.loses H.loses event.now }
-        ensures { Makes
-            (kept E.means E.anew E.machine)
-            (kept H.means H.anew H.machine)
-            (met E.machine H.machine event.now self.old.cut (seen E.means H.means self.old))
-            self.new
-            lines.old lines.new result }
-    {
-        match self.cut {
-            Some((side, call)) => self.cut_short(alloc, side, call, event, lines),
-            None => self.carry_whole(alloc, event, lines),
-        }
-    }
-
-    // An end's power goes in this event.
-    fn cut_short(
-        &mut self,
-        alloc: Global,
-        side: Side,
-        call: u32,
-        event: &Event,
-        lines: &mut Row<u8>,
-    ) -> WorldStep
-        requires loses { MayLose E.loses H.loses side }
-        requires event { MayHappen E.takes H.takes E.loses H.loses event.now }
-        ensures { Makes
-            (kept E.means E.anew E.machine)
-            (kept H.means H.anew H.machine)
-            (met E.machine H.machine event.now (Some (side, call)) (seen E.means H.means self.old))
-            self.new
-            lines.old lines.new result }
-    {
-        self.arm(side, call);
-        match self.carry(alloc, event, lines) {
-            WorldStep::Went => {
-                self.disarm(side);
-                self.start_over(alloc, side, lines)
-            }
-            WorldStep::PowerLost(lost) => self.start_over(alloc, lost, lines),
-            stop => stop,
-        }
-    }
-
-    // Its disk hasn't come to that call, and comes to none any more: it would start anew from what it is.
-    fn disarm(&mut self, side: Side)
-        ensures { IsDark
-            (kept E.means E.anew E.machine)
-            (kept H.means H.anew H.machine)
-            side
-            self.new
-            (seen E.means H.means self.old) }
-    {
-        match side {
-            Side::Equipment => {
-                self.equipment.arm(0);
-            }
-            Side::Host => {
-                self.host.arm(0);
-            }
-        }
-    }
-
-    // The power goes in it only where a call of the disk is planned still.
-    fn carry_whole(&mut self, alloc: Global, event: &Event, lines: &mut Row<u8>) -> WorldStep
-        requires { MayHappen E.takes H.takes E.loses H.loses event.now }
-        ensures { Makes
-            (kept E.means E.anew E.machine)
-            (kept H.means H.anew H.machine)
-            (met E.machine H.machine event.now None (seen E.means H.means self.old))
-            self.new
-            lines.old lines.new result }
-    {
-        match self.carry(alloc, event, lines) {
-            WorldStep::PowerLost(lost) => self.start_over(alloc, lost, lines),
-            went => went,
-        }
-    }
-
-    // It is to go at this call of the end's disk.
-    fn arm(&mut self, side: Side, call: u32)
-        requires { MayLose E.loses H.loses side }
-        ensures { seen E.means H.means self.new ≡ (armed side call (seen E.means H.means self.old)).world }
-    {
-        self.cut = None;
-        match side {
-            Side::Equipment => self.is_cut = side_if(side, self.equipment.arm(call)),
-            Side::Host => self.is_cut = side_if(side, self.host.arm(call)),
-        }
-    }
-
-    // The end has no power: it starts anew, and makes a step.
-    fn start_over(&mut self, alloc: Global, side: Side, lines: &mut Row<u8>) -> WorldStep
-        ensures { (left : WorldOf E.State H.State)
-            → IsDark (kept E.means E.anew E.machine) (kept H.means H.anew H.machine) side self.old left
-            → Makes
-            (kept E.means E.anew E.machine)
-            (kept H.means H.anew H.machine)
-            (without E.machine H.machine side left)
-            self.new
-            lines.old lines.new result }
-    {
-        match self.start_anew(alloc, side, lines) {
-            WorldStep::Went => {}
-            stop => return stop,
-        }
-        match side {
-            Side::Equipment => self.step_equipment(alloc, 0, NodeInput::Time, lines),
-            Side::Host => self.step_host(alloc, NodeInput::Time, lines),
-        }
-    }
-
-    // The line is emptied, and the end starts anew with what is left of its disk.
-    fn start_anew(&mut self, alloc: Global, side: Side, lines: &mut Row<u8>) -> WorldStep
-        ensures { (left : WorldOf E.State H.State)
-            → IsDark (kept E.means E.anew E.machine) (kept H.means H.anew H.machine) side self.old left
-            → Makes
-            (kept E.means E.anew E.machine)
-            (kept H.means H.anew H.machine)
-            (again E.machine H.machine side left)
-            self.new
-            lines.old lines.new result }
-    {
-        empty_line(side, &mut self.ways);
-        self.is_cut = None;
-        match side {
-            Side::Equipment => restart_end(
-                alloc,
-                self.moment,
-                Side::Equipment,
-                self.choice,
-                &mut self.equipment,
-                lines,
-            ),
-            Side::Host => restart_end(
-                alloc,
-                self.moment,
-                Side::Host,
-                self.choice,
-                &mut self.host,
-                lines,
-            ),
-        }
-    }
-
     // What a line of a schedule has happen, as long as there is power.
-    fn carry(&mut self, alloc: Global, event: &Event, lines: &mut Row<u8>) -> WorldStep
+    pub(crate) fn carry(&mut self, alloc: Global, event: &Event, lines: &mut Row<u8>) -> WorldStep
         requires { MayHappen E.takes H.takes E.loses H.loses event.now }
         ensures { Makes
             (kept E.means E.anew E.machine)
@@ -524,7 +369,7 @@ impl<E: End<Command = ToolCommand>, H: End<Command = HostCommand>> World<E, H> {
     }
 
     // The clock goes on, and the equipment makes a step, where one is left.
-    fn step_equipment(
+    pub(crate) fn step_equipment(
         &mut self,
         alloc: Global,
         milliseconds: u32,
@@ -559,7 +404,7 @@ impl<E: End<Command = ToolCommand>, H: End<Command = HostCommand>> World<E, H> {
     }
 
     // The host makes a step, where one is left.
-    fn step_host(
+    pub(crate) fn step_host(
         &mut self,
         alloc: Global,
         input: NodeInput<'_, HostCommand>,
@@ -621,14 +466,6 @@ fn lose_from(ways: &mut Ways, side: Side, n: u32)
     }
 }
 
-// An end has no power: nothing is on its way, and it has gathered nothing.
-fn empty_line(side: Side, ways: &mut Ways)
-    ensures ways { ways.new ≡ without_power side ways.old }
-    ensures count { ways.new.written ≡ ways.old.written }
-{
-    ways.empty(side);
-}
-
 fn is_to_lose(side: Side, is_cut: Option<Side>) -> bool
     ensures { result ≡ is_to_lose side is_cut }
 {
@@ -636,10 +473,4 @@ fn is_to_lose(side: Side, is_cut: Option<Side>) -> bool
         Some(other) => side == other,
         None => false,
     }
-}
-
-fn side_if(side: Side, is_it: bool) -> Option<Side>
-    ensures { result ≡ (if is_it then Some side else None) }
-{
-    if is_it { Some(side) } else { None }
 }
