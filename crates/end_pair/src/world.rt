@@ -192,9 +192,9 @@ impl<E: End<Command = ToolCommand>, H: End<Command = HostCommand>> World<E, H> {
 
     /// Carries out an event, and puts its lines at the end. Every earlier call must have answered `Went`.
     ///
-    /// A cut ends the equipment's power, and one of the host's the host's, in the next event that isn't a cut itself: at
-    /// the call of that end's disk that the cut names, or at the event's end where fewer are made. The end starts anew
-    /// at once, and the rest of that event isn't carried out. A later cut takes the place of one before it.
+    /// A cut ends the equipment's power, and one of the host's the host's, in the next event that isn't a cut itself:
+    /// at the call of that end's disk that the cut names, or at the event's end where fewer are made. The end starts
+    /// anew at once, and the rest of that event isn't carried out. A later cut takes the place of one before it.
     pub fn step(&mut self, alloc: Global, event: &Event, lines: &mut Row<u8>) -> WorldStep
         requires { MayHappen E.takes H.takes E.loses H.loses event.now }
         ensures lines { let piece = after_event E.machine H.machine event.now (seen E.means H.means self.old) in

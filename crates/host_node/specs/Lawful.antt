@@ -345,7 +345,8 @@ module _ (plan : HostPlan) (base : ℕ) where
 -- nothing is to be drawn in the first step
 begins :
     (plan : HostPlan) (step : Step (Node HostOwn Kind) Happening)
-    → host_machine.act (bare_started (end_plan plan) (first_own plan) (numbers_from 0 (2 ^ 32))).next Time 0 ≢ Spent step
+    → host_machine.act (bare_started (end_plan plan) (first_own plan) (numbers_from 0 (2 ^ 32))).next Time 0
+      ≢ Spent step
 unfolding late_duties
 begins plan step same = absurd (cc)
 

@@ -68,8 +68,8 @@ impl Host {
         }
     }
 
-    /// One step. `NumbersSpent` comes exactly where it must draw a number and none is left; what it has noted by then is
-    /// there. Where it ends nothing is sent.
+    /// One step. `NumbersSpent` comes exactly where it must draw a number and none is left; what it has noted by then
+    /// is there. Where it ends nothing is sent.
     pub fn step(
         self,
         alloc: Global,
@@ -119,7 +119,8 @@ impl Host {
         self.core.more(NUMBERS, &mut out);
     }
 
-    /// The message that the last step delivered, whatever came of it: None where that delivered none, and behind a start.
+    /// The message that the last step delivered, whatever came of it: None where that delivered none, and behind a
+    /// start.
     pub fn delivered(&self) -> Option<&Message>
         ensures { option_map (λ message. message.now) result ≡ self.now.own.delivered }
     {
