@@ -24,7 +24,7 @@ use Rattle.message_end.specs.Core.Went.{Goes, Spent}
 use Rattle.message_end.specs.Laws.{read_as, went_as}
 use Rattle.message_end.specs.Parts.{Node, after_parts, after_turn, closes, on_the_way}
 use Rattle.message_end.proofs.Leaving.{read-parts}
-use Rattle.spool_ledger.specs.Ledger.{LedgerView, carried_out}
+use Rattle.spool_ledger.specs.Ledger.{LedgerView, carried_out, next_of}
 use Rattle.spool_ledger.specs.Unloading.{next_number}
 use Rattle.spool_ledger.specs.declared.ledger.Stand.{Stand}
 use Rattle.equipment_tables.specs.Tables.{most_transmitted}
