@@ -1,6 +1,6 @@
 //! The equipment over the disk of its spool.
 
-ghost use Rattle.std.specs.Prelude.{◌≡◌, ◌+◌, ◌≤◌, ◌<◌, ◌^◌, IfOk, Some};
+ghost use Rattle.std.specs.Prelude.{◌≡◌, ◌+◌, ◌≤◌, ◌<◌, ◌^◌, length, IfOk, Some};
 ghost use Rattle.line_end.specs.Step.{is_due};
 ghost use Rattle.disk_base.specs.Story.{Story};
 ghost use Rattle.gem_spool.specs.Standing.{standing_of};
@@ -12,6 +12,7 @@ ghost use Rattle.equipment_node.specs.Breaking.{BreaksBy};
 ghost use Rattle.equipment_node.specs.DiskCalls.{CallsInStep, disk_held};
 ghost use Rattle.equipment_node.specs.HandedBack.{StartHandsBack, StepHandsBack};
 ghost use Rattle.equipment_node.specs.Held.{Begins, FindsFile, IsIn, Moves, starting_by, view_in};
+ghost use Rattle.spool_ledger.specs.Ledger.{new_ledger};
 ghost use Rattle.tool_core.specs.Node.{node_of};
 ghost use Rattle.equipment_node.specs.SpentSteps.{IsSpentByCause, IsStartSpentByCause};
 ghost use Rattle.equipment_node.specs.StartCalls.{CallsInStart, StartMoves};
@@ -258,12 +259,21 @@ fn start_with<D: Disk>(
     ensures starts { StartsWith plan.now spool base out.old out.new result }
     ensures line { out.new.line ≡ out.old.line }
 {
-    let count = spool.count();
-    let Ok(ledger) = Ledger::new(alloc, count.slots, spool.first(), count.len) else {
+    let Ok(ledger) = ledger_of(alloc, &spool) else {
         return Err(Starting::NoMemory(spool.retire()));
     };
     match Tool::start_on(alloc, plan, ledger, base, out) {
         Ok(tool) => Ok(Equipment { tool, spool }),
         Err(NoMemory) => Err(Starting::NoMemory(spool.retire())),
     }
+}
+
+// The ledger of a spool that was just taken up, in which each message takes one slot.
+fn ledger_of<D: Disk>(alloc: Global, spool: &GemSpool<D>) -> Result<Ledger, NoMemory>
+    ensures ledger { IfOk result (λ ledger.
+        ledger ≡ new_ledger spool.now.spool.slots spool.now.spool.first spool.now.spool.len) }
+    ensures len { IfOk result (λ ledger. length ledger.sizes ≡ spool.now.spool.len) }
+{
+    let count = spool.count();
+    Ledger::new(alloc, count.slots, spool.first(), count.len)
 }
