@@ -346,7 +346,7 @@ module _ (plan : HostPlan) (base : ℕ) where
 begins :
     (plan : HostPlan) (step : Step (Node HostOwn Kind) Happening)
     → host_machine.act (bare_started (end_plan plan) (first_own plan) (numbers_from 0 (2 ^ 32))).next Time 0
-      ≢ Spent step
+    ≢ Spent step
 unfolding late_duties
 begins plan step same = absurd (cc)
 
