@@ -15,7 +15,7 @@ use Rattle.message_end.specs.Core.{EndView, Step, Went, and_then, carried}
 use Rattle.message_end.specs.Core.Command.{Halt, Note as NoteThis}
 use Rattle.message_end.specs.Core.Went.{Goes, Spent}
 use Rattle.message_end.specs.Duties.{all_done}
-use Rattle.message_end.specs.Parts.{Takes, after_turn, core_step, fixed_turn, on_the_way, went_with}
+use Rattle.message_end.specs.Parts.{ComesTo, Takes, after_turn, core_step, fixed_turn, on_the_way, went_with}
 use Rattle.message_end.proofs.Carrying.{carried_append}
 use Rattle.spool_ledger.specs.Ledger.{Booked, LedgerView}
 use Rattle.spool_ledger.specs.Storing.{Account, Books, account_of, stored}
@@ -232,3 +232,20 @@ pub stores_then :
 stores_then stores own more old middle new out out_middle out_new result taken is =
     stores_flag (with_ledger stores.next own) stores.lines stores.is_spent more old middle new out out_middle out_new
     result taken is
+
+-- several come to what the one comes to at which they stop
+pub stores_stopped :
+    (message : Spooled) (messages reports : List Spooled) (t first : Step ToolNode Note) (all : List Spooled)
+    (new : ToolNode) (out_new : StepOut) (why : Stop) (result : Result (Unit {0}) Stop)
+    → reports ≡ message ∷ messages → stores_step reports t ≡ stores_step all first → result ≡ Err why
+    → ComesTo {A = Unit {0}} (after_turn printed_note (stored_turn message t.next.own) t) new out_new (Err why)
+    → ComesTo (stores_step all first) new out_new result
+stores_stopped message messages reports t first all new out_new NoMemory result is same ends stops =
+    subst (λ (r : Result (Unit {0}) Stop). ComesTo (stores_step all first) new out_new r) (sym ends) tt
+stores_stopped message messages reports t first all new out_new Full result is same ends stops = absurd stops
+stores_stopped message messages reports t first all new out_new DiskFailed result is same ends stops = absurd stops
+stores_stopped message messages reports t first all new out_new NumbersSpent result is same ends stops =
+    subst (λ (r : Result (Unit {0}) Stop). ComesTo (stores_step all first) new out_new r) (sym ends)
+    (sym same
+    ∙ ap (λ (several : List Spooled). stores_step several t) is
+    ∙ stores_stop message messages t (on_the_way new out_new) stops)
