@@ -4,7 +4,6 @@ use Rattle.gl_base.specs.Events.{moment_after}
 use Rattle.gl_base.specs.declared.link.LinkIn.{LinkIn}
 use Rattle.gl_base.specs.declared.link.LinkIn.TheVariants as link
 use Rattle.gl_base.specs.declared.side.Side.{Side}
-use Rattle.line_schedule.specs.declared.script.ScriptStep.{ScriptStep}
 use Rattle.message_end.specs.Core.{Step, Went}
 use Rattle.message_end.specs.Core.Went.{Goes, Spent}
 use Rattle.message_end.specs.Ends.{Asked, Input, Machine}
@@ -15,12 +14,12 @@ use Rattle.end_run.specs.declared.ending.Ending.{Ending}
 use Rattle.end_run.specs.declared.ending.Ending.TheVariants as ending
 use Rattle.end_run.specs.Acts.{Act, StepAt}
 use Rattle.end_run.specs.Acts.Act.{Connects, Polls, Sends, Stands, Writes}
+use Rattle.end_run.specs.Commands.{Commands, Telling}
+use Rattle.end_run.specs.Commands.Telling.{IsOther, Stops, Tells}
 use Rattle.end_run.specs.Outcome.{DiskFails, RunsOver}
 use Rattle.end_run.specs.Pieces.{Piece, and_more, and_on}
-use Rattle.end_run.specs.Run.{begun, polled, started_run, turned, upon}
+use Rattle.end_run.specs.Run.{begun, commanded_run, polled, turned, upon}
 use Rattle.end_run.specs.Scenes.{Scene}
-use Rattle.end_run.specs.Script.{ScriptLine, Telling, due_lines, later_lines}
-use Rattle.end_run.specs.Script.Telling.{IsOther, Stops, Tells}
 use Rattle.end_run.specs.Steps.{all_told, answered, entries_at, made, sends, started, step_at, stepped, tells}
 
 -- its machine lists nothing at which a disk may stop it
@@ -59,7 +58,7 @@ never {S} {C} a b acts on fails =
     let none = go-behind fails.done _ all in
     subst (λ (stops : List (List Entry)). Has stops fails.entries) none.0 fails.may
 
-module _ {S C : Type 0} (machine : Machine S C) (due : S → Option ℕ) (told : ScriptStep → Telling C) (side : Side)
+module _ {S C Q : Type 0} (machine : Machine S C) (due : S → Option ℕ) (commands : Commands Q C) (side : Side)
     (nowhere : StopsNowhere machine) where
   sends-on : (characters : List ℕ) → GoOn (sends {S = S} {C = C} characters)
   sends-on [] = tt
@@ -89,45 +88,45 @@ module _ {S C : Type 0} (machine : Machine S C) (due : S → Option ℕ) (told :
   tells-on now Stops s = tt
   tells-on now IsOther s = tt
 
-  told-on : (now : ℕ) (lines : List ScriptLine) (s : S) → GoOn (all_told machine side told now lines s).acts
+  told-on : (now : ℕ) (tellings : List (Telling C)) (s : S) → GoOn (all_told machine side now tellings s).acts
   told-on now [] s = tt
-  told-on now (line ∷ lines) s =
-      more-on (tells machine side now (told line.1) s) (all_told machine side told now lines)
-      (tells-on now (told line.1) s) (told-on now lines)
+  told-on now (telling ∷ tellings) s =
+      more-on (tells machine side now telling s) (all_told machine side now tellings) (tells-on now telling s)
+      (told-on now tellings)
 
-  answered-on : (now : ℕ) (lines : List ScriptLine) (input : Input C) (s : S)
-      → GoOn (answered machine side told now lines input s).acts
-  answered-on now lines input s =
-      more-on (all_told machine side told now lines s) (stepped machine side now input) (told-on now lines s)
+  answered-on : (now : ℕ) (tellings : List (Telling C)) (input : Input C) (s : S)
+      → GoOn (answered machine side now tellings input s).acts
+  answered-on now tellings input s =
+      more-on (all_told machine side now tellings s) (stepped machine side now input) (told-on now tellings s)
       (stepped-on now input)
 
-  upon-on : (lines : List ScriptLine) (before : ℕ) (answer : LinkIn) (s : S)
-      → GoOn (upon machine due told side lines before answer s).acts
-  upon-on lines before (link.Char byte now) s = answered-on now (due_lines now lines) (Char byte) s
-  upon-on lines before (link.Quiet now) s = answered-on now (due_lines now lines) Time s
-  upon-on lines before link.Closed s = tt
-  upon-on lines before link.Failed s = tt
+  upon-on : (coming : Q) (before : ℕ) (answer : LinkIn) (s : S)
+      → GoOn (upon machine due commands side coming before answer s).acts
+  upon-on coming before (link.Char byte now) s = answered-on now (commands.come now coming) (Char byte) s
+  upon-on coming before (link.Quiet now) s = answered-on now (commands.come now coming) Time s
+  upon-on coming before link.Closed s = tt
+  upon-on coming before link.Failed s = tt
 
-  polled-on : (n : ℕ) (lines : List ScriptLine) (before : ℕ) (answers : List LinkIn) (s : S)
-      → GoOn (polled machine due told side n lines before answers s).acts
-  polled-on zero lines before answers s = tt
-  polled-on (suc n) lines before [] s = upon-on lines before link.Closed s
-  polled-on (suc n) lines before (answer ∷ answers) s =
+  polled-on : (n : ℕ) (coming : Q) (before : ℕ) (answers : List LinkIn) (s : S)
+      → GoOn (polled machine due commands side n coming before answers s).acts
+  polled-on zero coming before answers s = tt
+  polled-on (suc n) coming before [] s = upon-on coming before link.Closed s
+  polled-on (suc n) coming before (answer ∷ answers) s =
       let now = moment_after before answer in
-      more-on (turned machine due told side lines before answer s)
-      (polled machine due told side n (later_lines now lines) now answers) (upon-on lines before answer s)
-      (polled-on n (later_lines now lines) now answers)
+      more-on (turned machine due commands side coming before answer s)
+      (polled machine due commands side n (commands.later now coming) now answers) (upon-on coming before answer s)
+      (polled-on n (commands.later now coming) now answers)
 
-  started-on : (start : Step S Happening) (lines : List ScriptLine) (polls : ℕ) (answers : List LinkIn)
-      → GoOn (started_run machine due told side start lines polls answers).acts
-  started-on start lines polls answers =
-      more-on (begun machine due told side start) (polled machine due told side polls lines 0 answers)
+  run-on : (start : Step S Happening) (coming : Q) (polls : ℕ) (answers : List LinkIn)
+      → GoOn (commanded_run machine due commands side start coming polls answers).acts
+  run-on start coming polls answers =
+      more-on (begun machine side start) (polled machine due commands side polls coming 0 answers)
       (more-on (started side start) (stepped machine side 0 Time) tt (stepped-on 0 Time))
-      (polled-on polls lines 0 answers)
+      (polled-on polls coming 0 answers)
 
   pub no_disk :
-      (start : Step S Happening) (lines : List ScriptLine) (polls : ℕ) (a b : Scene S C)
-      → RunsOver a b (started_run machine due told side start lines polls) ending.DiskFailed → ⊥
-  no_disk start lines polls a b over =
-      never a b (started_run machine due told side start lines polls over.answers).acts
-      (started-on start lines polls over.answers) over.runs
+      (start : Step S Happening) (coming : Q) (polls : ℕ) (a b : Scene S C)
+      → RunsOver a b (commanded_run machine due commands side start coming polls) ending.DiskFailed → ⊥
+  no_disk start coming polls a b over =
+      never a b (commanded_run machine due commands side start coming polls over.answers).acts
+      (run-on start coming polls over.answers) over.runs

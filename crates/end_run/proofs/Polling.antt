@@ -9,7 +9,6 @@ use Rattle.gl_base.specs.declared.link.LinkIn.{LinkIn}
 use Rattle.gl_base.specs.declared.link.LinkIn.TheVariants as link
 use Rattle.gl_base.specs.declared.side.Side.{Side}
 use Rattle.gl_base.proofs.Appending.{wrote_nothing}
-use Rattle.line_schedule.specs.declared.script.ScriptStep.{ScriptStep}
 use Rattle.message_end.specs.declared.end.Stop.{Stop}
 use Rattle.message_end.specs.Core.{Went}
 use Rattle.message_end.specs.Core.Went.{Goes, Spent}
@@ -22,12 +21,12 @@ use Rattle.end_run.specs.declared.ending.Ending.TheVariants as ending
 use Rattle.end_run.specs.Acts.{Act, StepAt, taken_by, taken_of}
 use Rattle.end_run.specs.Acts.Act.{Polls}
 use Rattle.end_run.specs.Calls.{HasTurned, Left, PollFails, Turned}
+use Rattle.end_run.specs.Commands.{Commands, Telling, wait_until}
+use Rattle.end_run.specs.Commands.Telling.{IsOther, Stops, Tells}
 use Rattle.end_run.specs.Outcome.{AreToCome, ComesOver, Did, LinkFails, Lists, Runs, RunsOver}
 use Rattle.end_run.specs.Pieces.{Piece, and_more, and_on, behind, stops}
 use Rattle.end_run.specs.Run.{polled, turned, upon}
 use Rattle.end_run.specs.Scenes.{Scene, StopAt, written}
-use Rattle.end_run.specs.Script.{ScriptLine, Telling, due_lines, later_lines, wait_until}
-use Rattle.end_run.specs.Script.Telling.{IsOther, Stops, Tells}
 use Rattle.end_run.specs.Steps.{all_told, answered, made, sends, step_at, stepped, tells}
 use Rattle.end_run.proofs.Doing.{behind_both, more_on, runs_behind, runs_stop}
 use Rattle.end_run.proofs.Joining.{did_both, did_none, lists_still, taken_of-append}
@@ -84,39 +83,39 @@ module _ {S C : Type 0} (machine : Machine S C) (side : Side) where
   tells-none now Stops s = refl
   tells-none now IsOther s = refl
 
-  told-none : (told : ScriptStep → Telling C) (now : ℕ) (lines : List ScriptLine) (s : S)
-      → taken_of (all_told machine side told now lines s).acts ≡ []
-  told-none told now [] s = refl
-  told-none told now (line ∷ lines) s =
-      more-none (tells machine side now (told line.1) s) (all_told machine side told now lines)
-      (tells-none now (told line.1) s) (told-none told now lines)
+  told-none : (now : ℕ) (tellings : List (Telling C)) (s : S)
+      → taken_of (all_told machine side now tellings s).acts ≡ []
+  told-none now [] s = refl
+  told-none now (telling ∷ tellings) s =
+      more-none (tells machine side now telling s) (all_told machine side now tellings) (tells-none now telling s)
+      (told-none now tellings)
 
-  pub answered-none : (told : ScriptStep → Telling C) (now : ℕ) (due : List ScriptLine) (input : Input C) (s : S)
-      → taken_of (answered machine side told now due input s).acts ≡ []
-  answered-none told now due input s =
-      more-none (all_told machine side told now due s) (stepped machine side now input) (told-none told now due s)
+  pub answered-none : (now : ℕ) (tellings : List (Telling C)) (input : Input C) (s : S)
+      → taken_of (answered machine side now tellings input s).acts ≡ []
+  answered-none now tellings input s =
+      more-none (all_told machine side now tellings s) (stepped machine side now input) (told-none now tellings s)
       (stepped-none now input)
 
 -- ---- polls
 
-module _ {S C : Type 0} (machine : Machine S C) (due : S → Option ℕ) (told : ScriptStep → Telling C) (side : Side) where
-  upon-none : (lines : List ScriptLine) (before : ℕ) (answer : LinkIn) (s : S)
-      → taken_of (upon machine due told side lines before answer s).acts ≡ []
-  upon-none lines before (link.Char byte now) s =
-      answered-none machine side told now (due_lines now lines) (Char byte) s
-  upon-none lines before (link.Quiet now) s = answered-none machine side told now (due_lines now lines) Time s
-  upon-none lines before link.Closed s = refl
-  upon-none lines before link.Failed s = refl
+module _ {S C Q : Type 0} (machine : Machine S C) (due : S → Option ℕ) (commands : Commands Q C) (side : Side) where
+  upon-none : (coming : Q) (before : ℕ) (answer : LinkIn) (s : S)
+      → taken_of (upon machine due commands side coming before answer s).acts ≡ []
+  upon-none coming before (link.Char byte now) s =
+      answered-none machine side now (commands.come now coming) (Char byte) s
+  upon-none coming before (link.Quiet now) s = answered-none machine side now (commands.come now coming) Time s
+  upon-none coming before link.Closed s = refl
+  upon-none coming before link.Failed s = refl
 
-  turned-takes : (lines : List ScriptLine) (before : ℕ) (answer : LinkIn) (s : S)
-      → taken_of (turned machine due told side lines before answer s).acts ≡ taken_by answer
-  turned-takes lines before answer s =
-      ap (λ (answers : List LinkIn). taken_by answer ++ answers) (upon-none lines before answer s)
+  turned-takes : (coming : Q) (before : ℕ) (answer : LinkIn) (s : S)
+      → taken_of (turned machine due commands side coming before answer s).acts ≡ taken_by answer
+  turned-takes coming before answer s =
+      ap (λ (answers : List LinkIn). taken_by answer ++ answers) (upon-none coming before answer s)
       ∙ append-nil (taken_by answer)
 
   -- so many polls of an end that is on its way
-  abbrev pub polls : ℕ → Left S → List LinkIn → Piece S C
-  polls n here answers = polled machine due told side n here.lines here.moment answers here.end
+  abbrev pub polls : ℕ → Left S Q → List LinkIn → Piece S C
+  polls n here answers = polled machine due commands side n here.coming here.moment answers here.end
 
   -- some polls were made, and with those that are left they are the whole, whatever comes
   pub record IsPolled (a b : Scene S C) (whole left : List LinkIn → Piece S C) : Type 0 where
@@ -125,7 +124,7 @@ module _ {S C : Type 0} (machine : Machine S C) (due : S → Option ℕ) (told :
     pub leads : (rest : List LinkIn) → whole (taken_of acts ++ rest) ≡ behind acts (left rest)
 
   pub polled_as :
-      (a b : Scene S C) (whole : List LinkIn → Piece S C) (here : Left S) (n m : ℕ) → n ≡ m
+      (a b : Scene S C) (whole : List LinkIn → Piece S C) (here : Left S Q) (n m : ℕ) → n ≡ m
       → IsPolled a b whole (polls n here) → IsPolled a b whole (polls m here)
   polled_as a b whole here n m same is = subst (λ (k : ℕ). IsPolled a b whole (polls k here)) same is
 
@@ -133,29 +132,29 @@ module _ {S C : Type 0} (machine : Machine S C) (due : S → Option ℕ) (told :
   polled_first a whole = record { acts = []; did = did_none a; leads = λ rest. refl }
 
   -- the answers that bring what a poll has brought
-  record Brings (l : Option LinkContents) (n : ℕ) (here : Left S) (answer : LinkIn) : Type 0 where
+  record Brings (l : Option LinkContents) (n : ℕ) (here : Left S Q) (answer : LinkIn) : Type 0 where
     pub coming : List LinkIn
     pub comes : AreToCome l coming
     pub more : S → Piece S C
     pub is : polls (suc n) here coming
-        ≡ and_more (turned machine due told side here.lines here.moment answer here.end) more
+        ≡ and_more (turned machine due commands side here.coming here.moment answer here.end) more
 
   abbrev tail_of : Option LinkContents → List LinkIn
   tail_of None = []
   tail_of (Some contents) = drop 1 contents.left
 
   one_comes :
-      (l : Option LinkContents) (answer : LinkIn) (n : ℕ) (here : Left S)
+      (l : Option LinkContents) (answer : LinkIn) (n : ℕ) (here : Left S Q)
       → AreToCome l (answer ∷ tail_of l) → Brings l n here answer
   one_comes l answer n here comes = record {
     coming = answer ∷ tail_of l;
     comes = comes;
-    more = λ s. polled machine due told side n (later_lines (moment_after here.moment answer) here.lines)
+    more = λ s. polled machine due commands side n (commands.later (moment_after here.moment answer) here.coming)
         (moment_after here.moment answer) (tail_of l) s;
     is = refl;
   }
 
-  brings : (l : Option LinkContents) (answer : LinkIn) (n : ℕ) (here : Left S) → IsToldAnswer l answer
+  brings : (l : Option LinkContents) (answer : LinkIn) (n : ℕ) (here : Left S Q) → IsToldAnswer l answer
       → answer ≢ link.Failed → Brings l n here answer
   brings None (link.Char byte now) n here told other = one_comes None (link.Char byte now) n here tt
   brings (Some contents) (link.Char byte now) n here told other =
@@ -172,18 +171,18 @@ module _ {S C : Type 0} (machine : Machine S C) (due : S → Option ℕ) (told :
   module _
       {E : Type 0} (known : E → Type 0) (left : S → Input C → ℕ → StepOut → Stop → E → Type 0) (end : E)
       {a b : Scene S C} (c : Option (StopAt S C) → Scene S C) (whole : List LinkIn → Piece S C) (n : ℕ)
-      (before after : Left S) (ends : after.end ≡ (c None).end) (here : IsPolled a b whole (polls (suc n) before))
+      (before after : Left S Q) (ends : after.end ≡ (c None).end) (here : IsPolled a b whole (polls (suc n) before))
     where
       -- the run goes on
       turned_on :
-          (answer : LinkIn) → Turned known left end machine due told side b c before after None answer
+          (answer : LinkIn) → Turned known left end machine due commands side b c before after None answer
           → IsPolled a (c None) whole (polls n after)
       turned_on answer is = go answer is
         where
           one : LinkIn → Piece S C
-          one answer = turned machine due told side before.lines before.moment answer before.end
+          one answer = turned machine due commands side before.coming before.moment answer before.end
 
-          goes : (answer : LinkIn) → Turned known left end machine due told side b c before after None answer
+          goes : (answer : LinkIn) → Turned known left end machine due commands side b c before after None answer
               → taken_by answer ≡ answer ∷ [] → IsPolled a (c None) whole (polls n after)
           goes answer is takes = record {
             acts = here.acts ++ (one answer).acts;
@@ -198,7 +197,7 @@ module _ {S C : Type 0} (machine : Machine S C) (due : S → Option ℕ) (told :
               next : List LinkIn → S → Piece S C
               next rest s =
                   let now = moment_after before.moment answer in
-                  polled machine due told side n (later_lines now before.lines) now rest s
+                  polled machine due commands side n (commands.later now before.coming) now rest s
 
               same : (rest : List LinkIn)
                   → taken_of (here.acts ++ (one answer).acts) ++ rest ≡ taken_of here.acts ++ answer ∷ rest
@@ -206,18 +205,18 @@ module _ {S C : Type 0} (machine : Machine S C) (due : S → Option ℕ) (told :
                   ap (λ (answers : List LinkIn). answers ++ rest)
                   (taken_of-append here.acts (one answer).acts
                   ∙ ap (λ (answers : List LinkIn). taken_of here.acts ++ answers)
-                  (turned-takes before.lines before.moment answer before.end ∙ takes))
+                  (turned-takes before.coming before.moment answer before.end ∙ takes))
                   ∙ append_assoc (taken_of here.acts) (answer ∷ []) rest
 
               arrives : (rest : List LinkIn) → next rest (one answer).end ≡ polls n after rest
               arrives rest =
                   ap (λ (s : S). next rest s) (sym (ends ∙ is.runs.2))
-                  ∙ ap (λ (now : ℕ). polled machine due told side n (later_lines now before.lines) now rest after.end)
+                  ∙ ap (λ (now : ℕ). polled machine due commands side n (commands.later now before.coming) now rest after.end)
                   (sym is.moment)
-                  ∙ ap (λ (lines : List ScriptLine). polled machine due told side n lines after.moment rest after.end)
-                  (sym is.lines)
+                  ∙ ap (λ (coming : Q). polled machine due commands side n coming after.moment rest after.end)
+                  (sym is.coming)
 
-          go : (answer : LinkIn) → Turned known left end machine due told side b c before after None answer
+          go : (answer : LinkIn) → Turned known left end machine due commands side b c before after None answer
               → IsPolled a (c None) whole (polls n after)
           go (link.Char byte now) is = goes (link.Char byte now) is refl
           go (link.Quiet now) is = goes (link.Quiet now) is refl
@@ -240,7 +239,7 @@ module _ {S C : Type 0} (machine : Machine S C) (due : S → Option ℕ) (told :
       -- the run has ended
       turned_out :
           (how : Ending) (answer : LinkIn)
-          → Turned known left end machine due told side b c before after (Some how) answer
+          → Turned known left end machine due commands side b c before after (Some how) answer
           → answer ≢ link.Failed → ComesOver known left end a c whole how
       turned_out how answer is other =
           let of = brings b.contents answer n before is.next other in
@@ -249,37 +248,37 @@ module _ {S C : Type 0} (machine : Machine S C) (due : S → Option ℕ) (told :
             runs.1,
             whole_runs (c runs.0) of.coming how of.comes
                 (subst (λ (piece : Piece S C). Runs b (c runs.0) piece (Some how)) (sym of.is)
-                (runs_stop b (c runs.0) (turned machine due told side before.lines before.moment answer before.end)
+                (runs_stop b (c runs.0) (turned machine due commands side before.coming before.moment answer before.end)
                 of.more how runs.2)),
           )
 
       -- the poll has failed: it is the first act of what is left, whatever was to come
       first_polls : (coming : List LinkIn)
           → (answer : LinkIn) × (later : List (Act S C))
-          × ((polls (suc n) before coming).acts ≡ Polls (wait_until (due before.end) before.lines) answer ∷ later)
+          × ((polls (suc n) before coming).acts ≡ Polls (wait_until (due before.end) (commands.asks before.coming)) answer ∷ later)
       first_polls [] =
-          (link.Closed, (upon machine due told side before.lines before.moment link.Closed before.end).acts, refl)
+          (link.Closed, (upon machine due commands side before.coming before.moment link.Closed before.end).acts, refl)
       first_polls (answer ∷ answers) = go
-          (upon machine due told side before.lines before.moment answer before.end).ended
+          (upon machine due commands side before.coming before.moment answer before.end).ended
         where
           one : Piece S C
-          one = turned machine due told side before.lines before.moment answer before.end
+          one = turned machine due commands side before.coming before.moment answer before.end
 
           more : S → Piece S C
           more s =
               let now = moment_after before.moment answer in
-              polled machine due told side n (later_lines now before.lines) now answers s
+              polled machine due commands side n (commands.later now before.coming) now answers s
 
           go : (ended : Option Ending)
               → (answer : LinkIn) × (later : List (Act S C))
-              × ((and_on ended one more).acts ≡ Polls (wait_until (due before.end) before.lines) answer ∷ later)
+              × ((and_on ended one more).acts ≡ Polls (wait_until (due before.end) (commands.asks before.coming)) answer ∷ later)
           go None = (
             answer,
-            (upon machine due told side before.lines before.moment answer before.end).acts
+            (upon machine due commands side before.coming before.moment answer before.end).acts
                 ++ (more one.end).acts,
             refl,
           )
-          go (Some how) = (answer, (upon machine due told side before.lines before.moment answer before.end).acts, refl)
+          go (Some how) = (answer, (upon machine due commands side before.coming before.moment answer before.end).acts, refl)
 
       poll_failed : PollFails b (c None) (Some ending.LinkFailed) → known end
           → ComesOver known left end a c whole ending.LinkFailed
@@ -290,13 +289,13 @@ module _ {S C : Type 0} (machine : Machine S C) (due : S → Option ℕ) (told :
           acts = (polls (suc n) before (rest_of b.contents)).acts
 
           of : (answer : LinkIn) × (later : List (Act S C))
-              × (acts ≡ Polls (wait_until (due before.end) before.lines) answer ∷ later)
+              × (acts ≡ Polls (wait_until (due before.end) (commands.asks before.coming)) answer ∷ later)
           of = first_polls (rest_of b.contents)
 
           fails : LinkFails b (c None) acts
           fails = record {
             done = [];
-            failed = Polls (wait_until (due before.end) before.lines) of.0;
+            failed = Polls (wait_until (due before.end) (commands.asks before.coming)) of.0;
             later = of.1;
             whole = of.2;
             part = [];
@@ -316,12 +315,12 @@ module _ {S C : Type 0} (machine : Machine S C) (due : S → Option ℕ) (told :
                   ap (λ (r : Option (List ℕ)). written b (record (c None) { received = r })) is.received
                   ∙ ap (λ (k : SinkHealth). written b (record (c None) { received = b.received; out = k })) is.out
 
-      pub polled_on : HasTurned known left end machine due told side b c before after None
+      pub polled_on : HasTurned known left end machine due commands side b c before after None
           → IsPolled a (c None) whole (polls n after) × known end
       polled_on (inl fails) = let is = fails.0.is in absurd (cc)
       polled_on (inr turned) = (turned_on turned.0 turned.1, turned.1.runs.1)
 
-      pub polled_out : (how : Ending) → HasTurned known left end machine due told side b c before after (Some how)
+      pub polled_out : (how : Ending) → HasTurned known left end machine due commands side b c before after (Some how)
           → ComesOver known left end a c whole how
       polled_out how (inl (fails, so)) =
           subst (λ (how : Ending). ComesOver known left end a c whole how) (is_failed how fails.is) (poll_failed
@@ -341,7 +340,7 @@ module _ {S C : Type 0} (machine : Machine S C) (due : S → Option ℕ) (told :
       polled_out how (inr turned) = turned_out how turned.0 turned.1 turned.1.other
 
   -- no poll is left
-  pub polled_over : (a b : Scene S C) (whole : List LinkIn → Piece S C) (here : Left S)
+  pub polled_over : (a b : Scene S C) (whole : List LinkIn → Piece S C) (here : Left S Q)
       → IsPolled a b whole (polls zero here) → RunsOver a b whole ending.Turns
   polled_over a b whole here is = record {
     answers = taken_of is.acts ++ rest_of b.contents;

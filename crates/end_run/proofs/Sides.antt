@@ -9,7 +9,8 @@ use Rattle.line_schedule.specs.Script.{IsToldLine, LineFits, moment_of_line}
 use Rattle.line_schedule.specs.declared.script.ScriptStep.{ScriptStep}
 use Rattle.line_schedule.specs.declared.script.ScriptStep.TheVariants as step
 use Rattle.trace_log.specs.Commands.{HostCommandFits, ToolCommandFits}
-use Rattle.end_run.specs.Script.{AreTold, MayTell, ScriptLine, Telling}
+use Rattle.end_run.specs.Commands.{MayTell, Telling}
+use Rattle.end_run.specs.Script.{AreTold, ScriptLine}
 use Rattle.end_run.specs.Sides.{told_equipment, told_host}
 
 -- a line of the host within its ranges tells it a command that it takes, or to stop

@@ -5,7 +5,6 @@ use Rattle.gl_base.specs.Sending.{WroteText}
 use Rattle.gl_base.specs.Sink.{SinkHealth}
 use Rattle.gl_base.specs.declared.link.LinkIn.{LinkIn}
 use Rattle.gl_base.specs.declared.side.Side.{Side}
-use Rattle.line_schedule.specs.declared.script.ScriptStep.{ScriptStep}
 use Rattle.message_end.specs.Core.{Step}
 use Rattle.message_end.specs.Ends.{Machine}
 use Rattle.message_end.specs.Ends.Input.{Time}
@@ -16,11 +15,11 @@ use Rattle.end_run.specs.declared.ending.Ending.TheVariants.{Closed, DiskFailed,
 use Rattle.end_run.specs.Acts.{taken_of}
 use Rattle.end_run.specs.Acts.Act.{Connects, Writes}
 use Rattle.end_run.specs.Calls.{StopsAtStart}
+use Rattle.end_run.specs.Commands.{Commands}
 use Rattle.end_run.specs.Outcome.{AreToCome, Linked, Runs, RunsOver}
 use Rattle.end_run.specs.Pieces.{Piece}
-use Rattle.end_run.specs.Run.{begun, polled, started_run}
+use Rattle.end_run.specs.Run.{begun, commanded_run, polled}
 use Rattle.end_run.specs.Scenes.{Scene, written}
-use Rattle.end_run.specs.Script.{ScriptLine, Telling}
 use Rattle.end_run.specs.Steps.{entries_at, started, stepped}
 use Rattle.end_run.proofs.Doing.{runs_more, runs_stop}
 use Rattle.end_run.proofs.Joining.{lists_still, room_none}
@@ -35,24 +34,24 @@ nothing_runs a run = record {
   runs = part_none a (run (rest_of a.contents)).acts;
 }
 
-module _ {S C : Type 0} (machine : Machine S C) (due : S → Option ℕ) (told_by : ScriptStep → Telling C) (side : Side)
-    (start : Step S Happening) (lines : List ScriptLine) (polls : ℕ) where
+module _ {S C Q : Type 0} (machine : Machine S C) (due : S → Option ℕ) (commands : Commands Q C) (side : Side)
+    (start : Step S Happening) (coming : Q) (polls : ℕ) where
   -- all of the run, by the answers
   abbrev pub all_of : List LinkIn → Piece S C
-  all_of answers = started_run machine due told_by side start lines polls answers
+  all_of answers = commanded_run machine due commands side start coming polls answers
 
   abbrev pub entries : List Entry
   entries = entries_at side 0 start.notes
 
   -- a run that ended before its first poll
-  ends_early : (a b : Scene S C) (how : Ending) → Runs a b (begun machine due told_by side start) (Some how)
+  ends_early : (a b : Scene S C) (how : Ending) → Runs a b (begun machine side start) (Some how)
       → RunsOver a b all_of how
   ends_early a b how runs = record {
     answers = rest_of a.contents;
     to_come = rest_comes a.contents;
     runs =
-        runs_stop a b (begun machine due told_by side start)
-        (polled machine due told_by side polls lines 0 (rest_of a.contents)) how runs;
+        runs_stop a b (begun machine side start)
+        (polled machine due commands side polls coming 0 (rest_of a.contents)) how runs;
   }
 
   start_stops : (a b : Scene S C) (how : Ending) → Runs a b (started side start) (Some how) → RunsOver a b all_of how
@@ -122,7 +121,7 @@ module _ {S C : Type 0} (machine : Machine S C) (due : S → Option ℕ) (told_b
       module _ (carried : IsCarriedOn a.link h' 0) (b : Scene S C) (mid : S) (is_mid : mid ≡ start.next) where
         -- its first step
         first_step : (result : Option Ending) → Runs called b (stepped machine side 0 Time mid) result
-            → Runs a b (begun machine due told_by side start) result
+            → Runs a b (begun machine side start) result
         first_step result runs =
             runs_more b (started side start) (stepped machine side 0 Time) mid result (start_runs carried) is_mid runs
 
@@ -133,7 +132,7 @@ module _ {S C : Type 0} (machine : Machine S C) (due : S → Option ℕ) (told_b
         -- it goes on behind that
         pub runs_on : (c : Scene S C) (s : S) (how : Ending) → Runs called b (stepped machine side 0 Time mid) None
             → s ≡ (stepped machine side 0 Time mid).end
-            → RunsOver b c (λ answers. polled machine due told_by side polls lines 0 answers s) how
+            → RunsOver b c (λ answers. polled machine due commands side polls coming 0 answers s) how
             → RunsOver a c all_of how
         runs_on c s how step is_s over = record {
           answers = over.answers;
@@ -141,12 +140,12 @@ module _ {S C : Type 0} (machine : Machine S C) (due : S → Option ℕ) (told_b
               subst (λ (answers : List LinkIn). AreToCome a.contents (answers ++ over.answers)) none
               (comes_behind a.contents b.contents first.acts over.answers runs.1.made.linked.listed over.to_come);
           runs =
-              runs_more c first (polled machine due told_by side polls lines 0 over.answers) s (Some how) runs
+              runs_more c first (polled machine due commands side polls coming 0 over.answers) s (Some how) runs
               (is_s ∙ sym first_end) over.runs;
         }
           where
             first : Piece S C
-            first = begun machine due told_by side start
+            first = begun machine side start
 
             runs : Runs a b first None
             runs = first_step None step

@@ -1,4 +1,4 @@
--- What a poll brings, and what the lines of a script bring.
+-- What a poll brings, and what an end is told.
 use Rattle.std.proofs.Common.{◌≡◌, ◌≢◌, ℕ, ◌+◌, ◌<◌, ◌≤◌, arith, length, get_or, drop-cons, add-one, List, [], ◌∷◌, drop, Option, Some, None, inr, refl, sym, ap, subst, ◌∙◌}
 use Rattle.std.proofs.lemmas.List.{drop-drop, length-drop}
 use Rattle.std.proofs.lemmas.List.Sums.{prefix_len-le-length}
@@ -9,7 +9,6 @@ use Rattle.gl_base.specs.declared.link.LinkIn.{LinkIn}
 use Rattle.gl_base.specs.declared.link.LinkIn.TheVariants as link
 use Rattle.gl_base.specs.declared.side.Side.{Side}
 use Rattle.gl_base.proofs.Appending.{wrote_nothing}
-use Rattle.line_schedule.specs.declared.script.ScriptStep.{ScriptStep}
 use Rattle.message_end.specs.declared.end.Stop.{Stop}
 use Rattle.message_end.specs.Ends.{Input, Machine, MayTake}
 use Rattle.message_end.specs.Ends.Input.{Char, Command, Time}
@@ -21,12 +20,13 @@ use Rattle.end_run.specs.declared.ending.Ending.TheVariants as ending
 use Rattle.end_run.specs.Acts.{Act}
 use Rattle.end_run.specs.Acts.Act.{Polls}
 use Rattle.end_run.specs.Calls.{EndsWith, HasTurned, IsPlainInput, Left}
+use Rattle.end_run.specs.Commands.{Commands, Telling, MayTell, command_of, wait_until}
+use Rattle.end_run.specs.Commands.Telling.{IsOther, Stops, Tells}
 use Rattle.end_run.specs.Outcome.{Comes, Did, IfOn, Lists, Runs}
 use Rattle.end_run.specs.Pieces.{Piece, behind}
 use Rattle.end_run.specs.Run.{closed, upon}
 use Rattle.end_run.specs.Scenes.{Scene, StopAt, written}
-use Rattle.end_run.specs.Script.{ScriptLine, Telling, MayTell, command_of, due_count, is_due_line, later_lines, wait_until}
-use Rattle.end_run.specs.Script.Telling.{IsOther, Stops, Tells}
+use Rattle.end_run.specs.Script.{ScriptLine, due_count, is_due_line, later_lines}
 use Rattle.end_run.specs.Steps.{entries_at, stepped, tells}
 use Rattle.end_run.proofs.Coming.{comes_after}
 use Rattle.end_run.proofs.Joining.{did_none, room_none}
@@ -83,26 +83,26 @@ polled_did {S} {C} a l' m' h' until answer other next told timely clock cause = 
 }
 
 module _
-    {E S C : Type 0} (known : E → Type 0) (left : S → Input C → ℕ → StepOut → Stop → E → Type 0) (end : E)
-    (machine : Machine S C) (due : S → Option ℕ) (told_by : ScriptStep → Telling C) (side : Side) (a : Scene S C)
-    (c : Option (StopAt S C) → Scene S C) (l' : Option LinkContents) (m' : ℕ) (h' : LinkHealth) (before after : Left S)
-    (until : ℕ) (deadline : Option ℕ) (lines : List ScriptLine) (is_lines : lines ≡ before.lines)
-    (is_due : deadline ≡ due before.end) (is_until : until ≡ wait_until deadline lines)
+    {E S C Q : Type 0} (known : E → Type 0) (left : S → Input C → ℕ → StepOut → Stop → E → Type 0) (end : E)
+    (machine : Machine S C) (due : S → Option ℕ) (commands : Commands Q C) (side : Side) (a : Scene S C)
+    (c : Option (StopAt S C) → Scene S C) (l' : Option LinkContents) (m' : ℕ) (h' : LinkHealth)
+    (before after : Left S Q) (until : ℕ) (deadline : Option ℕ) (coming : Q) (is_coming : coming ≡ before.coming)
+    (is_due : deadline ≡ due before.end) (is_until : until ≡ wait_until deadline (commands.asks coming))
   where
-    waits : until ≡ wait_until (due before.end) before.lines
+    waits : until ≡ wait_until (due before.end) (commands.asks before.coming)
     waits =
-        is_until ∙ ap (λ (deadline : Option ℕ). wait_until deadline lines) is_due
-        ∙ ap (λ (lines : List ScriptLine). wait_until (due before.end) lines) is_lines
+        is_until ∙ ap (λ (deadline : Option ℕ). wait_until deadline (commands.asks coming)) is_due
+        ∙ ap (λ (coming : Q). wait_until (due before.end) (commands.asks coming)) is_coming
 
     pub turned_by :
         (answer : LinkIn) (result : Option Ending) → answer ≢ link.Failed → IsToldAnswer a.contents answer
         → l' ≡ told_after_poll until answer a.contents → IsTimely until a.moment answer
         → m' ≡ moment_after a.moment answer → HasPollCause a.link h' answer
         → Comes known left end (with_link a l' m' h') c
-        (upon machine due told_by side lines before.moment answer before.end) result
+        (upon machine due commands side coming before.moment answer before.end) result
         → after.moment ≡ moment_after before.moment answer
-        → IfOn result (after.lines ≡ later_lines after.moment before.lines)
-        → HasTurned known left end machine due told_by side a c before after result
+        → IfOn result (after.coming ≡ commands.later after.moment before.coming)
+        → HasTurned known left end machine due commands side a c before after result
     turned_by answer result other next told timely clock cause runs moment later = inr (
       answer,
       record {
@@ -110,16 +110,16 @@ module _
         other = other;
         runs =
             subst (λ (act : Act S C). Comes known left end a c (behind (act ∷ [])
-            (upon machine due told_by side before.lines before.moment answer before.end)) result)
+            (upon machine due commands side before.coming before.moment answer before.end)) result)
             (ap (λ (until : ℕ). Polls until answer) waits)
             (comes_after known left end c (Polls until answer ∷ [])
             (polled_did a l' m' h' until answer other next told timely clock cause)
-            (upon machine due told_by side before.lines before.moment answer before.end) result
-            (subst (λ (lines : List ScriptLine). Comes known left end (with_link a l' m' h') c
-            (upon machine due told_by side lines before.moment answer before.end) result)
-            is_lines runs));
+            (upon machine due commands side before.coming before.moment answer before.end) result
+            (subst (λ (coming : Q). Comes known left end (with_link a l' m' h') c
+            (upon machine due commands side coming before.moment answer before.end) result)
+            is_coming runs));
         moment = moment;
-        lines = later;
+        coming = later;
       },
     )
 
@@ -161,17 +161,17 @@ given_within lines left given given' now is within is_given =
     let long = ap length is ∙ length-drop given lines in
     omega (arith, few, long, within, is_given)
 
--- ---- a line of a script
+-- ---- what an end is told
 
 module _ {S C : Type 0} (machine : Machine S C) (side : Side) (now : ℕ) (takes : C → Type 0) where
-  -- a line that tells no command, and isn't of the other end, stops the run
+  -- where it is no command, and not for another end, it stops the run
   pub told_stops : (a : Scene S C) (s : S) (telling : Telling C) → MayTell takes telling → command_of telling ≡ None
       → Runs a a (tells machine side now telling s) (Some ending.Stopped)
   told_stops a s (Tells command) may is = absurd (cc)
   told_stops a s Stops may is = (refl, did_none a)
   told_stops a s IsOther may is = absurd may
 
-  -- it tells a command
+  -- it is a command
   pub told_as : (P : Piece S C → Type 0) (s : S) (telling : Telling C) (given : C) → command_of telling ≡ Some given
       → P (stepped machine side now (Command given) s) → P (tells machine side now telling s)
   told_as P s (Tells command) given is runs =
@@ -182,7 +182,7 @@ module _ {S C : Type 0} (machine : Machine S C) (side : Side) (now : ℕ) (takes
   told_as P s Stops given is runs = absurd (cc)
   told_as P s IsOther given is runs = absurd (cc)
 
-  -- its command is one that the end takes
+  -- which the end takes
   pub told_takes : (telling : Telling C) (given : C) → MayTell takes telling → command_of telling ≡ Some given
       → takes given
   told_takes (Tells command) given may is = subst takes (same is) may
@@ -192,7 +192,7 @@ module _ {S C : Type 0} (machine : Machine S C) (side : Side) (now : ℕ) (takes
   told_takes Stops given may is = absurd (cc)
   told_takes IsOther given may is = absurd (cc)
 
--- the next line
+-- the next line of a script
 pub next_line : (lines : List ScriptLine) (i : ℕ) (line : ScriptLine) → i < length lines → line ≡ get_or lines i line
     → drop i lines ≡ line ∷ drop (i + 1) lines
 next_line lines i line below is =

@@ -9,7 +9,6 @@ use Rattle.gl_base.specs.declared.link.Link as trait
 use Rattle.gl_base.specs.declared.link.LinkIn.{LinkIn}
 use Rattle.gl_base.specs.declared.link.LinkIn.TheVariants as link
 use Rattle.gl_base.specs.declared.side.Side.{Side}
-use Rattle.line_schedule.specs.declared.script.ScriptStep.{ScriptStep}
 use Rattle.message_end.specs.declared.end.Stop.{Stop}
 use Rattle.message_end.specs.Ends.{Input, Machine}
 use Rattle.message_end.specs.Ends.Input.{Char, Command, Time}
@@ -17,10 +16,11 @@ use Rattle.message_flow.specs.declared.step.StepOut.{StepOut}
 use Rattle.end_run.specs.declared.ending.Ending.{Ending}
 use Rattle.end_run.specs.declared.ending.Ending.TheVariants.{Closed, DiskFailed, Full, LinkFailed, NoMemory, NumbersSpent, Stopped, Turns, WriteFailed}
 use Rattle.end_run.specs.declared.polls.Place.{Place}
+use Rattle.end_run.specs.Commands.{Commands}
 use Rattle.end_run.specs.Outcome.{Comes, IfOn}
 use Rattle.end_run.specs.Run.{turned}
 use Rattle.end_run.specs.Scenes.{Scene, StopAt}
-use Rattle.end_run.specs.Script.{ScriptLine, Telling, later_lines}
+use Rattle.end_run.specs.Script.{ScriptLine}
 
 -- ---- the connection
 
@@ -83,14 +83,14 @@ IsPlainInput (Command command) = ⊥
 
 -- ---- polls
 
--- an end on its way: its state, the lines still to come, and the moment of the last answer that had one
-pub record Left (S : Type 0) : Type 0 where
+-- an end on its way: its state, what is still to come of its commands, and the moment of the last answer that had one
+pub record Left (S Q : Type 0) : Type 0 where
   pub end : S
-  pub lines : List ScriptLine
+  pub coming : Q
   pub moment : ℕ
 
-abbrev pub left_of : {S : Type 0} → S → List ScriptLine → Place → Left S
-left_of end lines place = record { end = end; lines = drop place.given lines; moment = place.now }
+abbrev pub left_of : {S : Type 0} → S → List ScriptLine → Place → Left S (List ScriptLine)
+left_of end lines place = record { end = end; coming = drop place.given lines; moment = place.now }
 
 -- a poll failed, and nothing else was done
 pub record PollFails {S C : Type 0} (a b : Scene S C) (result : Option Ending) : Type 0 where
@@ -104,22 +104,22 @@ pub record PollFails {S C : Type 0} (a b : Scene S C) (result : Option Ending) :
   pub stop : b.stop ≡ a.stop
 
 module _
-    {E S C : Type 0} (known : E → Type 0) (left : S → Input C → ℕ → StepOut → Stop → E → Type 0) (end : E)
-    (machine : Machine S C) (due : S → Option ℕ) (told : ScriptStep → Telling C) (side : Side)
+    {E S C Q : Type 0} (known : E → Type 0) (left : S → Input C → ℕ → StepOut → Stop → E → Type 0) (end : E)
+    (machine : Machine S C) (due : S → Option ℕ) (commands : Commands Q C) (side : Side)
   where
     -- a poll came to this answer, which was the next to come, and what follows from it was done
-    pub record Turned (a : Scene S C) (b : Option (StopAt S C) → Scene S C) (before after : Left S)
+    pub record Turned (a : Scene S C) (b : Option (StopAt S C) → Scene S C) (before after : Left S Q)
         (result : Option Ending) (answer : LinkIn)
         : Type 0 where
       pub next : IsToldAnswer a.contents answer
       pub other : answer ≢ link.Failed
       pub runs :
-          Comes known left end a b (turned machine due told side before.lines before.moment answer before.end) result
+          Comes known left end a b (turned machine due commands side before.coming before.moment answer before.end) result
       pub moment : after.moment ≡ moment_after before.moment answer
-      pub lines : IfOn result (after.lines ≡ later_lines after.moment before.lines)
+      pub coming : IfOn result (after.coming ≡ commands.later after.moment before.coming)
 
     -- a poll came to some answer, or failed
     abbrev pub HasTurned :
-        Scene S C → (Option (StopAt S C) → Scene S C) → Left S → Left S → Option Ending → Type 0
+        Scene S C → (Option (StopAt S C) → Scene S C) → Left S Q → Left S Q → Option Ending → Type 0
     HasTurned a b before after result =
         (PollFails a (b None) result × known end) ⊎ ((answer : LinkIn) × Turned a b before after result answer)

@@ -1,5 +1,6 @@
 pub mod Acts
 pub mod Calls
+pub mod Commands
 pub mod Counts
 pub mod Outcome
 pub mod Pieces

@@ -3,8 +3,8 @@ use Rattle.line_schedule.specs.declared.script.ScriptStep.{ScriptStep}
 use Rattle.line_schedule.specs.declared.script.ScriptStep.TheVariants as step
 use Rattle.trace_log.specs.declared.commands.HostCommand.{HostCommand}
 use Rattle.trace_log.specs.declared.commands.ToolCommand.{ToolCommand}
-use Rattle.end_run.specs.Script.{Telling}
-use Rattle.end_run.specs.Script.Telling.{IsOther, Stops, Tells}
+use Rattle.end_run.specs.Commands.{Telling}
+use Rattle.end_run.specs.Commands.Telling.{IsOther, Stops, Tells}
 
 abbrev pub told_host : ScriptStep → Telling HostCommand
 told_host (step.Tool command) = IsOther

@@ -1,7 +1,6 @@
--- One step of an end over a link, and the lines of a script as steps (this profile).
+-- One step of an end over a link, and what it is told as steps (this profile).
 use Rattle.std.specs.Prelude.{ℕ, Bool, true, false, List, [], ◌∷◌, ◌++◌, map, Option, Some, None}
 use Rattle.gl_base.specs.declared.side.Side.{Side}
-use Rattle.line_schedule.specs.declared.script.ScriptStep.{ScriptStep}
 use Rattle.message_end.specs.Core.{Step, Went}
 use Rattle.message_end.specs.Core.Went.{Goes, Spent}
 use Rattle.message_end.specs.Ends.{Asked, Input, Machine, wrote}
@@ -12,9 +11,9 @@ use Rattle.end_run.specs.declared.ending.Ending.{Ending}
 use Rattle.end_run.specs.declared.ending.Ending.TheVariants as ending
 use Rattle.end_run.specs.Acts.{Act, StepAt}
 use Rattle.end_run.specs.Acts.Act.{Connects, Sends, Stands, Writes}
+use Rattle.end_run.specs.Commands.{Telling}
+use Rattle.end_run.specs.Commands.Telling.{IsOther, Stops, Tells}
 use Rattle.end_run.specs.Pieces.{Piece, and_more, still, stops}
-use Rattle.end_run.specs.Script.{ScriptLine, Telling}
-use Rattle.end_run.specs.Script.Telling.{IsOther, Stops, Tells}
 
 -- what was noted at a moment, as entries
 abbrev pub entries_at : Side → ℕ → List Happening → List Entry
@@ -68,16 +67,16 @@ module _ {S C : Type 0} (machine : Machine S C) (side : Side) where
       made (step_at side now input s) (machine.stops s input now) (machine.asks s input now)
       (machine.fills s input now) (machine.act s input now)
 
-  -- a line of a script is a step with its command, or stops the end; one of the other end does nothing
+  -- a command is a step with it; another telling stops the end, or does nothing
   abbrev pub tells : ℕ → Telling C → S → Piece S C
   tells now (Tells command) s = stepped now (Command command) s
   tells now Stops s = stops ending.Stopped s
   tells now IsOther s = still s
 
-  abbrev pub all_told : (ScriptStep → Telling C) → ℕ → List ScriptLine → S → Piece S C
-  all_told told now [] s = still s
-  all_told told now (line ∷ lines) s = and_more (tells now (told line.1) s) (all_told told now lines)
+  abbrev pub all_told : ℕ → List (Telling C) → S → Piece S C
+  all_told now [] s = still s
+  all_told now (telling ∷ tellings) s = and_more (tells now telling s) (all_told now tellings)
 
-  -- the lines that are due come first, each as a step of its own, and then what was answered
-  abbrev pub answered : (ScriptStep → Telling C) → ℕ → List ScriptLine → Input C → S → Piece S C
-  answered told now due input s = and_more (all_told told now due s) (stepped now input)
+  -- what has come is told first, each as a step of its own, and then comes what was answered
+  abbrev pub answered : ℕ → List (Telling C) → Input C → S → Piece S C
+  answered now tellings input s = and_more (all_told now tellings s) (stepped now input)

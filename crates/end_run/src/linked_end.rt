@@ -8,7 +8,7 @@ ghost use Rattle.message_end.specs.declared.end.Stop.{Stop};
 ghost use Rattle.message_flow.specs.declared.step.StepOut.{StepOut};
 ghost use Rattle.end_run.specs.Counts.{Device, StepCounts};
 ghost use Rattle.end_run.specs.Scenes.{Stays};
-ghost use Rattle.end_run.specs.Script.{Telling, command_of};
+ghost use Rattle.end_run.specs.Commands.{Telling, command_of};
 
 use line_schedule::ScriptStep;
 use message_end::Stop;

@@ -10,7 +10,8 @@ ghost use Rattle.end_run.specs.Counts.{Counts, counted};
 ghost use Rattle.end_run.specs.Outcome.{ComesOver};
 ghost use Rattle.end_run.specs.Run.{polled};
 ghost use Rattle.end_run.specs.Scenes.{scene};
-ghost use Rattle.end_run.specs.Script.{AreTold, next_moment, wait_until};
+ghost use Rattle.end_run.specs.Commands.{wait_until};
+ghost use Rattle.end_run.specs.Script.{AreTold, by_script, next_moment};
 ghost use Rattle.end_run.specs.Steps.{entries_at};
 
 use crate::ending::Ending;
@@ -48,7 +49,7 @@ pub(crate) fn poll_all<E: LinkedEnd, L: Link, W: Sink>(
     ensures runs { E.known end.old → ComesOver E.known E.left end.new
         (scene L.Link W.Sink link.old out.old (E.means end.old) (E.room end.old) None)
         (scene L.Link W.Sink link.new out.new (E.means end.new) (E.room end.new))
-        (λ answers. polled E.machine E.due E.told side polls lines.now 0 answers (E.means end.old))
+        (λ answers. polled E.machine E.due (by_script E.told) side polls lines.now 0 answers (E.means end.old))
         result }
     ensures counts { Counts
         (counted L.Link W.Sink link.old out.old (E.device end.old))
@@ -82,7 +83,7 @@ fn turn<E: LinkedEnd, L: Link, W: Sink>(
     requires sound { E.sound end.old }
     requires lines { AreTold E.told E.takes lines.now }
     requires given { place.old.given ≤ length lines.now }
-    ensures turned { E.known end.old → HasTurned E.known E.left end.new E.machine E.due E.told side
+    ensures turned { E.known end.old → HasTurned E.known E.left end.new E.machine E.due (by_script E.told) side
         (scene L.Link W.Sink link.old out.old (E.means end.old) (E.room end.old) None)
         (scene L.Link W.Sink link.new out.new (E.means end.new) (E.room end.new))
         (left_of (E.means end.old) lines.now place.old)
@@ -112,7 +113,7 @@ fn turn<E: LinkedEnd, L: Link, W: Sink>(
 
 // Up to when the next poll waits.
 fn wait_until(deadline: Option<u64>, lines: &[(u64, ScriptStep)]) -> u64
-    ensures until { result ≡ wait_until deadline lines.now }
+    ensures until { result ≡ wait_until deadline (next_moment lines.now) }
     ensures range { result < 2 ^ 62 }
 {
     match least(deadline, next_moment(lines)) {

@@ -5,7 +5,8 @@ ghost use Rattle.end_run.specs.Calls.{plain_input};
 ghost use Rattle.end_run.specs.Counts.{Counts, counted};
 ghost use Rattle.end_run.specs.Outcome.{Comes};
 ghost use Rattle.end_run.specs.Scenes.{scene};
-ghost use Rattle.end_run.specs.Script.{AreTold, MayTell, due_count, due_lines};
+ghost use Rattle.end_run.specs.Commands.{MayTell};
+ghost use Rattle.end_run.specs.Script.{AreTold, due_count, due_lines, told_by};
 ghost use Rattle.end_run.specs.Steps.{all_told, answered, tells};
 
 use crate::ending::Ending;
@@ -36,7 +37,7 @@ pub(crate) fn answer<E: LinkedEnd, L: Link, W: Sink>(
     ensures runs { E.known end.old → Comes E.known E.left end.new
         (scene L.Link W.Sink link.old out.old (E.means end.old) (E.room end.old) None)
         (scene L.Link W.Sink link.new out.new (E.means end.new) (E.room end.new))
-        (answered E.machine side E.told now (due_lines now lines.now) (plain_input byte) (E.means end.old))
+        (answered E.machine side now (told_by E.told (due_lines now lines.now)) (plain_input byte) (E.means end.old))
         result }
     ensures counts { Counts
         (counted L.Link W.Sink link.old out.old (E.device end.old))
@@ -90,7 +91,7 @@ fn tell_all<E: LinkedEnd, L: Link, W: Sink>(
     ensures runs { E.known end.old → Comes E.known E.left end.new
         (scene L.Link W.Sink link.old out.old (E.means end.old) (E.room end.old) None)
         (scene L.Link W.Sink link.new out.new (E.means end.new) (E.room end.new))
-        (all_told E.machine side E.told now lines.now (E.means end.old))
+        (all_told E.machine side now (told_by E.told lines.now) (E.means end.old))
         result }
     ensures counts { Counts
         (counted L.Link W.Sink link.old out.old (E.device end.old))

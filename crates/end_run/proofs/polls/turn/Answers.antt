@@ -4,6 +4,7 @@ use Rattle.std.proofs.Common.{None, Some, refl}
 use Rattle.gl_base.specs.declared.link.LinkIn.TheVariants as link
 use Rattle.end_run.specs.Calls.{left_of}
 use Rattle.end_run.specs.Scenes.{scene}
+use Rattle.end_run.specs.Script.{by_script}
 use Rattle.end_run.proofs.Turning.{closed_runs, given_within, if_on, past_due, turned_by}
 use Rattle.end_run.specs.Counts.{counted}
 use Rattle.gl_base.specs.Told.{sink_told}
@@ -15,7 +16,7 @@ pub returns-in-Char-clause-turned : goal.returns-in-Char-clause-turned
 returns-in-Char-clause-turned g c =
     λ known.
     let e = g.E.LinkedEnd in
-    turned_by e.known e.left c.answer.new.end e.machine e.due e.told c.args.side _
+    turned_by e.known e.left c.answer.new.end e.machine e.due (by_script e.told) c.args.side _
     (scene g.L.Link g.W.Sink c.answer.new.link c.answer.new.out (e.means c.answer.new.end) (e.room c.answer.new.end))
     _ _ _
     (left_of (e.means c.args.end.now) c.args.lines.now c.args.place.now)
@@ -33,7 +34,7 @@ pub returns-in-Quiet-clause-turned : goal.returns-in-Quiet-clause-turned
 returns-in-Quiet-clause-turned g c =
     λ known.
     let e = g.E.LinkedEnd in
-    turned_by e.known e.left c.answer-in-Quiet.new.end e.machine e.due e.told c.args.side _
+    turned_by e.known e.left c.answer-in-Quiet.new.end e.machine e.due (by_script e.told) c.args.side _
     (scene g.L.Link g.W.Sink c.answer-in-Quiet.new.link c.answer-in-Quiet.new.out (e.means c.answer-in-Quiet.new.end)
     (e.room c.answer-in-Quiet.new.end)) _ _ _
     (left_of (e.means c.args.end.now) c.args.lines.now c.args.place.now)
@@ -54,7 +55,7 @@ returns-in-Closed-clause-turned g c =
     λ known.
     let e = g.E.LinkedEnd in
     let here = left_of (e.means c.args.end.now) c.args.lines.now c.args.place.now in
-    turned_by e.known e.left c.args.end.now e.machine e.due e.told c.args.side _
+    turned_by e.known e.left c.args.end.now e.machine e.due (by_script e.told) c.args.side _
     (scene g.L.Link g.W.Sink c.poll.new.self c.close.new.out (e.means c.args.end.now) (e.room c.args.end.now)) _ _ _
     here here c.wait_until-until.result c.deadline.result
     c.split_at.result.1.now c.split_at.ensures.back (c.deadline.ensures known) c.wait_until-until.ensures.until

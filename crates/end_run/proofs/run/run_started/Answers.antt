@@ -4,7 +4,7 @@ use Rattle.std.proofs.Common.{◌∙◌, List, None, Some, inl, inr, refl, subst
 use Rattle.end_run.specs.Outcome.{ComesOver}
 use Rattle.end_run.specs.Run.{polled}
 use Rattle.end_run.specs.Scenes.{scene}
-use Rattle.end_run.specs.Script.{ScriptLine}
+use Rattle.end_run.specs.Script.{ScriptLine, by_script}
 use Rattle.end_run.proofs.Starting.{connects_not, runs_on, start_falls, stops_at_first}
 use Rattle.end_run.proofs.Stepping.{start_text}
 use Rattle.gl_base.specs.Told.{sink_told}
@@ -19,7 +19,7 @@ returns-in-Some-clause-runs g c =
     let e = g.E.LinkedEnd in (
       None,
       known,
-      start_falls e.machine e.due e.told c.args.side start c.args.script.now.lines c.args.polls _ _
+      start_falls e.machine e.due (by_script e.told) c.args.side start c.args.script.now.lines c.args.polls _ _
           (start_text c.notes_are_lines.ensures c.args.side start c.args.notes.now are) _ _ c.in-Some.ending
           c.in-Some.ensures,
     )
@@ -30,7 +30,7 @@ returns-in_default-clause-runs g c =
     let e = g.E.LinkedEnd in (
       None,
       known,
-      connects_not e.machine e.due e.told c.args.side start c.args.script.now.lines c.args.polls _ _
+      connects_not e.machine e.due (by_script e.told) c.args.side start c.args.script.now.lines c.args.polls _ _
           (start_text c.notes_are_lines.ensures c.args.side start c.args.notes.now are) _ _ _ _ _
           c.in_default.ensures.same c.in_default.ensures.moment c.in-None.ensures c.in_default.ensures.cause,
     )
@@ -42,7 +42,7 @@ returns-in-Some-step_plain-clause-runs g c =
     let step = c.in-Some-step_plain.ensures.runs known in (
       step.0,
       step.1,
-      stops_at_first e.machine e.due e.told c.args.side start c.args.script.now.lines c.args.polls _ _
+      stops_at_first e.machine e.due (by_script e.told) c.args.side start c.args.script.now.lines c.args.polls _ _
           (start_text c.notes_are_lines.ensures c.args.side start c.args.notes.now are) _ _ _ _ _
           c.in-Done.ensures.same c.in-Done.ensures.moment c.in-None.ensures c.in-Done.ensures.cause _
           (e.means c.args.end.now) (sym is) c.in-Some-step_plain.ending step.2,
@@ -60,13 +60,13 @@ returns-clause-runs g c =
     (e.means c.step_plain.new.end) (e.room c.step_plain.new.end) None)
     (scene g.L.Link g.W.Sink c.poll_all.new.link c.poll_all.new.out
     (e.means c.poll_all.new.end) (e.room c.poll_all.new.end))
-    (λ answers. polled e.machine e.due e.told c.args.side c.args.polls
+    (λ answers. polled e.machine e.due (by_script e.told) c.args.side c.args.polls
     lines 0 answers (e.means c.step_plain.new.end)) c.poll_all.result)
     c.as_slice.ensures (c.poll_all.ensures.runs step.1)
     in (
       over.0,
       over.1,
-      runs_on e.machine e.due e.told c.args.side start c.args.script.now.lines c.args.polls _ _
+      runs_on e.machine e.due (by_script e.told) c.args.side start c.args.script.now.lines c.args.polls _ _
           (start_text c.notes_are_lines.ensures c.args.side start c.args.notes.now are) _ _ _ _ _
           c.in-Done.ensures.same c.in-Done.ensures.moment c.in-None.ensures c.in-Done.ensures.cause _
           (e.means c.args.end.now) (sym is) _ (e.means c.step_plain.new.end) c.poll_all.result step.0 step.2 over.2,

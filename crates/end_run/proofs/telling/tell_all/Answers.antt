@@ -2,7 +2,7 @@
 
 use Rattle.std.proofs.Common.{◌≤◌, ◌+◌, ◌∙◌, List, None, Some, refl, length, drop, ap, arith}
 use Rattle.std.proofs.lemmas.List.{drop_all}
-use Rattle.end_run.specs.Script.{ScriptLine}
+use Rattle.end_run.specs.Script.{ScriptLine, told_by}
 use Rattle.end_run.specs.Steps.{all_told, tells}
 use Rattle.end_run.proofs.Doing.{leads_done, leads_first, leads_on, leads_stop}
 use Rattle.end_run.proofs.Turning.{next_line}
@@ -19,7 +19,7 @@ returns-in-Some-clause-runs g c =
     let e = g.E.LinkedEnd in
     let i = c.lines.line-index in
     let next =
-    ap (λ (lines : List ScriptLine). all_told e.machine c.args.side e.told c.args.now lines
+    ap (λ (lines : List ScriptLine). all_told e.machine c.args.side c.args.now (told_by e.told lines)
     (e.means c.lines.end))
     (next_line c.args.lines.now i c.line-item.result c.lines-test.true c.line-item.is)
     in
@@ -29,7 +29,7 @@ returns-in-Some-clause-runs g c =
       told.1,
       leads_stop _ _ _ here.0
           (tells e.machine c.args.side c.args.now (e.told c.line-item.result.1) (e.means c.lines.end))
-          (all_told e.machine c.args.side e.told c.args.now (drop (i + 1) c.args.lines.now)) c.in-Some.ending next
+          (all_told e.machine c.args.side c.args.now (told_by e.told (drop (i + 1) c.args.lines.now))) c.in-Some.ending next
           told.2,
     )
 
@@ -43,7 +43,7 @@ lines-preserved g c = (
       let e = g.E.LinkedEnd in
       let i = c.lines.line-index in
       let next =
-      ap (λ (lines : List ScriptLine). all_told e.machine c.args.side e.told c.args.now lines
+      ap (λ (lines : List ScriptLine). all_told e.machine c.args.side c.args.now (told_by e.told lines)
       (e.means c.lines.end))
       (next_line c.args.lines.now i c.line-item.result c.lines-test.true c.line-item.is)
       in
@@ -51,7 +51,7 @@ lines-preserved g c = (
       let told = c.in-None.ensures.runs here.1 in (
         leads_on _ _ _ here.0
             (tells e.machine c.args.side c.args.now (e.told c.line-item.result.1) (e.means c.lines.end))
-            (all_told e.machine c.args.side e.told c.args.now (drop (i + 1) c.args.lines.now))
+            (all_told e.machine c.args.side c.args.now (told_by e.told (drop (i + 1) c.args.lines.now)))
             (e.means c.tell.new.end) next told.0 told.2,
         told.1,
       ),
@@ -66,7 +66,7 @@ returns-clause-runs g c =
     let here = c.lines.invariant.2 known in
     let done =
     leads_done _ _ _ _ (e.means c.lines.end) here.0
-    (ap (λ (lines : List ScriptLine). all_told e.machine c.args.side e.told c.args.now lines
+    (ap (λ (lines : List ScriptLine). all_told e.machine c.args.side c.args.now (told_by e.told lines)
     (e.means c.lines.end))
     (drop_all c.lines.line-index c.args.lines.now past))
     in (done.0, here.1, done.1)
