@@ -21,6 +21,12 @@ MayTell takes (Tells command) = takes command
 MayTell takes Stops = Unit {0}
 MayTell takes IsOther = ⊥
 
+-- where it is a command, one that the end takes
+abbrev pub IsTaken : {C : Type 0} → (C → Type 0) → Telling C → Type 0
+IsTaken takes (Tells command) = takes command
+IsTaken takes Stops = Unit {0}
+IsTaken takes IsOther = Unit {0}
+
 -- ---- where that comes from
 
 -- by what is still to come: the moment that it asks the next poll to end by, where it asks for one; what has come by an

@@ -22,7 +22,7 @@ use Rattle.host_node.specs.Host.{HostOwn, Kind, host_machine}
 use Rattle.end_run.proofs.NoDisk.{no_disk}
 use Rattle.end_run.specs.Outcome.{RunsOver}
 use Rattle.end_run.specs.Scenes.{StopAt}
-use Rattle.end_run.specs.Script.{ScriptLine}
+use Rattle.end_run.specs.Script.{ScriptLine, by_script}
 use Rattle.end_run.specs.Sides.{told_host}
 use Rattle.end_run.specs.declared.ending.Ending.{Ending}
 use Rattle.gemline_app.specs.Host.{WasRun, host_due, host_run, host_start}
@@ -69,7 +69,7 @@ was_run plan polls link out outcome lines ended host left room stop is_host is o
       ended = ended;
       outcome_is = is;
       no_disk = λ at.
-          no_disk host_machine host_due told_host side.Host (λ s input now. refl) (host_start plan) lines polls
+          no_disk host_machine host_due (by_script told_host) side.Host (λ s input now. refl) (host_start plan) lines polls
           (before_run link out (host_start plan).next) (after_run link out left room stop)
           (subst (λ (how : Ending). RunsOver (before_run link out (host_start plan).next)
           (after_run link out left room stop) (host_run plan lines polls) how) at runs);

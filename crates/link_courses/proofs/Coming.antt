@@ -4,7 +4,6 @@ use Rattle.gl_base.specs.Events.{moment_after}
 use Rattle.gl_base.specs.declared.link.LinkIn.{LinkIn}
 use Rattle.gl_base.specs.declared.link.LinkIn.TheVariants as link
 use Rattle.gl_base.specs.declared.side.Side.{Side}
-use Rattle.line_schedule.specs.declared.script.ScriptStep.{ScriptStep}
 use Rattle.message_end.specs.Core.{Step, Went}
 use Rattle.message_end.specs.Core.Went.{Goes, Spent}
 use Rattle.message_end.specs.Course.{Course, Meeting, course_of, noted_behind, notes_of, went_on, with_meeting}
@@ -16,10 +15,10 @@ use Rattle.message_end.proofs.Growing.{behind-both}
 use Rattle.trace_log.specs.Log.{Entry, Happening}
 use Rattle.end_pair.specs.Noted.{noted_by}
 use Rattle.end_run.specs.Acts.{log_of}
+use Rattle.end_run.specs.Commands.{Commands, Telling}
+use Rattle.end_run.specs.Commands.Telling.{IsOther, Stops, Tells}
 use Rattle.end_run.specs.Pieces.{Piece, and_more, and_on, stops}
-use Rattle.end_run.specs.Run.{begun, closed, polled, started_run, turned, upon}
-use Rattle.end_run.specs.Script.{ScriptLine, Telling, due_lines, later_lines}
-use Rattle.end_run.specs.Script.Telling.{IsOther, Stops, Tells}
+use Rattle.end_run.specs.Run.{begun, closed, commanded_run, polled, turned, upon}
 use Rattle.end_run.specs.Steps.{all_told, answered, entries_at, made, started, step_at, stepped, tells}
 use Rattle.end_run.specs.declared.ending.Ending.{Ending}
 use Rattle.end_run.specs.declared.ending.Ending.TheVariants as ending
@@ -168,7 +167,7 @@ module _ {S C : Type 0} (machine : Machine S C) (start : Step S Happening) (side
           spent-so now input step log met so.notes (acted (Spent step) is) s (machine.stops s input now)
           (machine.asks s input now) (machine.fills s input now)
 
-  -- ---- lines of the script, and an answer
+  -- ---- what the end is told, and an answer
 
   tell-so :
       (now : ℕ) (telling : Telling C) (s : S) (log : List Entry) (met : List (Meeting C)) → IsSo None s log met
@@ -177,22 +176,22 @@ module _ {S C : Type 0} (machine : Machine S C) (start : Step S Happening) (side
   tell-so now Stops s log met so = record { notes = so.notes; noted = so.noted; comes = so.comes }
   tell-so now IsOther s log met so = so
 
-  module _ (due : S → Option ℕ) (told : ScriptStep → Telling C) where
-    told-so :
-        (now : ℕ) (lines : List ScriptLine) (s : S) (log : List Entry) (met : List (Meeting C)) → IsSo None s log met
-        → Behind log met (all_told machine side told now lines s)
-    told-so now [] s log met so = so
-    told-so now (line ∷ lines) s log met so =
-        more-so log met (tells machine side now (told line.1) s) (all_told machine side told now lines)
-        (tell-so now (told line.1) s log met so) (told-so now lines)
+  told-so :
+      (now : ℕ) (tellings : List (Telling C)) (s : S) (log : List Entry) (met : List (Meeting C))
+      → IsSo None s log met → Behind log met (all_told machine side now tellings s)
+  told-so now [] s log met so = so
+  told-so now (telling ∷ tellings) s log met so =
+      more-so log met (tells machine side now telling s) (all_told machine side now tellings)
+      (tell-so now telling s log met so) (told-so now tellings)
 
-    answered-so :
-        (now : ℕ) (lines : List ScriptLine) (input : Input C) (s : S) (log : List Entry) (met : List (Meeting C))
-        → IsSo None s log met → Behind log met (answered machine side told now lines input s)
-    answered-so now lines input s log met so =
-        more-so log met (all_told machine side told now lines s) (stepped machine side now input)
-        (told-so now lines s log met so) (step-so now input)
+  answered-so :
+      (now : ℕ) (tellings : List (Telling C)) (input : Input C) (s : S) (log : List Entry) (met : List (Meeting C))
+      → IsSo None s log met → Behind log met (answered machine side now tellings input s)
+  answered-so now tellings input s log met so =
+      more-so log met (all_told machine side now tellings s) (stepped machine side now input)
+      (told-so now tellings s log met so) (step-so now input)
 
+  module _ {Q : Type 0} (due : S → Option ℕ) (commands : Commands Q C) where
     closed-so : (now : ℕ) (s : S) (log : List Entry) (met : List (Meeting C)) → IsSo None s log met
         → Behind log met (closed side now s)
     closed-so now s log met so = record {
@@ -204,38 +203,38 @@ module _ {S C : Type 0} (machine : Machine S C) (start : Step S Happening) (side
     }
 
     upon-so :
-        (lines : List ScriptLine) (before : ℕ) (answer : LinkIn) (s : S) (log : List Entry) (met : List (Meeting C))
-        → IsSo None s log met → Behind log met (upon machine due told side lines before answer s)
-    upon-so lines before (link.Char byte now) s log met so =
-        answered-so now (due_lines now lines) (Char byte) s log met so
-    upon-so lines before (link.Quiet now) s log met so = answered-so now (due_lines now lines) Time s log met so
-    upon-so lines before link.Closed s log met so = closed-so before s log met so
-    upon-so lines before link.Failed s log met so =
+        (coming : Q) (before : ℕ) (answer : LinkIn) (s : S) (log : List Entry) (met : List (Meeting C))
+        → IsSo None s log met → Behind log met (upon machine due commands side coming before answer s)
+    upon-so coming before (link.Char byte now) s log met so =
+        answered-so now (commands.come now coming) (Char byte) s log met so
+    upon-so coming before (link.Quiet now) s log met so = answered-so now (commands.come now coming) Time s log met so
+    upon-so coming before link.Closed s log met so = closed-so before s log met so
+    upon-so coming before link.Failed s log met so =
         record { notes = so.notes; noted = so.noted; comes = so.comes }
 
     -- a poll notes nothing
     turned-so :
-        (lines : List ScriptLine) (before : ℕ) (answer : LinkIn) (s : S) (log : List Entry) (met : List (Meeting C))
-        → IsSo None s log met → Behind log met (turned machine due told side lines before answer s)
-    turned-so lines before answer s log met so =
-        let piece = upon machine due told side lines before answer s in
+        (coming : Q) (before : ℕ) (answer : LinkIn) (s : S) (log : List Entry) (met : List (Meeting C))
+        → IsSo None s log met → Behind log met (turned machine due commands side coming before answer s)
+    turned-so coming before answer s log met so =
+        let piece = upon machine due commands side coming before answer s in
         subst (λ (m : List (Meeting C)). IsSo piece.ended piece.end ((log_of piece.acts ++ []) ++ log) (m ++ met))
         (sym (append-nil (met_by piece.acts)))
         (subst (λ (l : List Entry). IsSo piece.ended piece.end (l ++ log) (met_by piece.acts ++ met))
-        (sym (append-nil (log_of piece.acts))) (upon-so lines before answer s log met so))
+        (sym (append-nil (log_of piece.acts))) (upon-so coming before answer s log met so))
 
     polled-so :
-        (n : ℕ) (lines : List ScriptLine) (before : ℕ) (answers : List LinkIn) (s : S) (log : List Entry)
+        (n : ℕ) (coming : Q) (before : ℕ) (answers : List LinkIn) (s : S) (log : List Entry)
         (met : List (Meeting C)) → IsSo None s log met
-        → Behind log met (polled machine due told side n lines before answers s)
-    polled-so zero lines before answers s log met so =
+        → Behind log met (polled machine due commands side n coming before answers s)
+    polled-so zero coming before answers s log met so =
         record { notes = so.notes; noted = so.noted; comes = so.comes }
-    polled-so (suc n) lines before [] s log met so = turned-so lines before link.Closed s log met so
-    polled-so (suc n) lines before (answer ∷ answers) s log met so =
+    polled-so (suc n) coming before [] s log met so = turned-so coming before link.Closed s log met so
+    polled-so (suc n) coming before (answer ∷ answers) s log met so =
         let now = moment_after before answer in
-        more-so log met (turned machine due told side lines before answer s)
-        (polled machine due told side n (later_lines now lines) now answers)
-        (turned-so lines before answer s log met so) (polled-so n (later_lines now lines) now answers)
+        more-so log met (turned machine due commands side coming before answer s)
+        (polled machine due commands side n (commands.later now coming) now answers)
+        (turned-so coming before answer s log met so) (polled-so n (commands.later now coming) now answers)
 
     -- ---- all of a run
 
@@ -244,22 +243,23 @@ module _ {S C : Type 0} (machine : Machine S C) (start : Step S Happening) (side
         on-way start.next (entries_at side 0 start.notes ++ []) [] (noted_behind start.notes [])
         (at-own 0 side start.notes [] tt) (at-noted 0 side start.notes []) refl
 
-    begun-so : Behind [] [] (begun machine due told side start)
+    begun-so : Behind [] [] (begun machine side start)
     begun-so = more-so [] [] (started side start) (stepped machine side 0 Time) start-so (step-so 0 Time)
 
-    pub run-so : (lines : List ScriptLine) (polls : ℕ) (answers : List LinkIn)
-        → IsCourse machine start side (started_run machine due told side start lines polls answers)
-    run-so lines polls answers =
-        let run = started_run machine due told side start lines polls answers in
+    pub run-so : (coming : Q) (polls : ℕ) (answers : List LinkIn)
+        → IsCourse machine start side (commanded_run machine due commands side start coming polls answers)
+    run-so coming polls answers =
+        let run = commanded_run machine due commands side start coming polls answers in
         let so =
         subst (λ (m : List (Meeting C)). IsSo run.ended run.end (log_of run.acts ++ []) m)
         (append-nil (met_by run.acts))
-        (more-so [] [] (begun machine due told side start) (polled machine due told side polls lines 0 answers)
-        begun-so (polled-so polls lines 0 answers))
+        (more-so [] [] (begun machine side start) (polled machine due commands side polls coming 0 answers)
+        begun-so (polled-so polls coming 0 answers))
         in
         let all =
         subst (λ (l : List Entry). IsSo run.ended run.end l (met_by run.acts)) (append-nil (log_of run.acts)) so in
         record { notes = all.notes; noted = all.noted; comes = all.comes }
 
-pub are-courses : {S C : Type 0} → RunsAreCourses S C
-are-courses machine due told side start lines polls answers = run-so machine start side due told lines polls answers
+pub are-courses : {S C Q : Type 0} → RunsAreCourses S C Q
+are-courses machine due commands side start coming polls answers =
+    run-so machine start side due commands coming polls answers

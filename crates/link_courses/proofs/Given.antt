@@ -1,6 +1,6 @@
--- That an end is given in a run what it takes: bytes of its link, and commands of its script.
-use Rattle.std.proofs.Common.{sym, subst, zero, suc, ℕ, Bool, List, [], ◌∷◌, ◌++◌, Option, Some, None}
-use Rattle.std.proofs.lemmas.List.Elements.{All-drop, All-head, All-tail, All-take}
+-- That an end is given in a run what it takes: bytes of its link, and commands.
+use Rattle.std.proofs.Common.{sym, subst, zero, suc, ℕ, Bool, List, [], ◌∷◌, ◌++◌, All, Option, Some, None}
+use Rattle.std.proofs.lemmas.List.Elements.{All-cons, All-drop, All-head, All-nil, All-tail, All-take}
 use Rattle.gl_base.specs.Events.{moment_after}
 use Rattle.gl_base.specs.declared.link.LinkIn.{LinkIn}
 use Rattle.gl_base.specs.declared.link.LinkIn.TheVariants as link
@@ -13,10 +13,11 @@ use Rattle.message_end.specs.Course.Meeting.{Acts, Breaks, Fills, LosesPower, Re
 use Rattle.message_end.specs.Ends.{Asked, Input, Machine, MayTake}
 use Rattle.message_end.specs.Ends.Input.{Char, Command, Time}
 use Rattle.trace_log.specs.Log.{Happening}
+use Rattle.end_run.specs.Commands.{Commands, IsTaken, MayTell, Telling}
+use Rattle.end_run.specs.Commands.Telling.{IsOther, Stops, Tells}
 use Rattle.end_run.specs.Pieces.{Piece, and_more, and_on}
-use Rattle.end_run.specs.Run.{begun, polled, started_run, turned, upon}
-use Rattle.end_run.specs.Script.{AreTold, MayTell, ScriptLine, Telling, due_count, due_lines, later_lines}
-use Rattle.end_run.specs.Script.Telling.{IsOther, Stops, Tells}
+use Rattle.end_run.specs.Run.{begun, commanded_run, polled, turned, upon}
+use Rattle.end_run.specs.Script.{AreTold, ScriptLine, by_script, due_count, due_lines, told_by}
 use Rattle.end_run.specs.Steps.{all_told, answered, made, started, step_at, stepped, tells}
 use Rattle.end_run.specs.declared.ending.Ending.{Ending}
 use Rattle.link_courses.specs.Courses.{met_by}
@@ -41,8 +42,40 @@ given-both : {C : Type 0} (takes : C → Type 0) (newer older : List (Meeting C)
 given-both takes [] older one two = two
 given-both takes (meeting ∷ newer) older one two = (one.0, given-both takes newer older one.1 two)
 
-module _ {S C : Type 0} (machine : Machine S C) (due : S → Option ℕ) (told : ScriptStep → Telling C) (side : Side)
-    (takes : C → Type 0) where
+-- ---- what commands it
+
+-- what may come of what commands an end is what it takes
+pub record BringsTaken {Q C : Type 0} (commands : Commands Q C) (takes : C → Type 0) (May : Q → Type 0) : Type 0 where
+  pub come : (now : ℕ) (coming : Q) → May coming → All (IsTaken takes) (commands.come now coming)
+  pub later : (now : ℕ) (coming : Q) → May coming → May (commands.later now coming)
+
+-- so it is with a script whose lines tell what the end takes
+module _ {C : Type 0} (told : ScriptStep → Telling C) (takes : C → Type 0) where
+  abbrev MayLine : ScriptLine → Type 0
+  MayLine line = MayTell takes (told line.1)
+
+  is-taken : (telling : Telling C) → MayTell takes telling → IsTaken takes telling
+  is-taken (Tells command) may = may
+  is-taken Stops may = tt
+  is-taken IsOther may = absurd may
+
+  told-taken : (lines : List ScriptLine) → AreTold told takes lines → All (IsTaken takes) (told_by told lines)
+  told-taken [] may = All-nil (IsTaken takes)
+  told-taken (line ∷ lines) may =
+      All-cons (IsTaken takes) (told line.1) (told_by told lines)
+      (is-taken (told line.1) (All-head MayLine line lines may)) (told-taken lines (All-tail MayLine line lines may))
+
+  pub script-brings : BringsTaken (by_script told) takes (AreTold told takes)
+  script-brings = record {
+    come = λ now lines may.
+        told-taken (due_lines now lines) (All-take MayLine (due_count now lines) lines may);
+    later = λ now lines may. All-drop MayLine (due_count now lines) lines may;
+  }
+
+-- ---- a run
+
+module _ {S C Q : Type 0} (machine : Machine S C) (due : S → Option ℕ) (commands : Commands Q C) (side : Side)
+    (takes : C → Type 0) (May : Q → Type 0) (brings : BringsTaken commands takes May) where
   abbrev MayMeet : Piece S C → Type 0
   MayMeet piece = AreGiven takes (met_by piece.acts)
 
@@ -76,65 +109,58 @@ module _ {S C : Type 0} (machine : Machine S C) (due : S → Option ℕ) (told :
       made-given now input s (machine.stops s input now) (machine.asks s input now) (machine.fills s input now)
       (machine.act s input now) may
 
-  tell-given : (now : ℕ) (telling : Telling C) → MayTell takes telling → (s : S)
+  tell-given : (now : ℕ) (telling : Telling C) → IsTaken takes telling → (s : S)
       → MayMeet (tells machine side now telling s)
   tell-given now (Tells command) may s = step-given now (Command command) may s
   tell-given now Stops may s = tt
   tell-given now IsOther may s = tt
 
-  told-given : (now : ℕ) (lines : List ScriptLine) → AreTold told takes lines → (s : S)
-      → MayMeet (all_told machine side told now lines s)
+  told-given : (now : ℕ) (tellings : List (Telling C)) → All (IsTaken takes) tellings → (s : S)
+      → MayMeet (all_told machine side now tellings s)
   told-given now [] may s = tt
-  told-given now (line ∷ lines) may s =
-      more-given (tells machine side now (told line.1) s) (all_told machine side told now lines)
-      (tell-given now (told line.1) (All-head (λ (l : ScriptLine). MayTell takes (told l.1)) line lines may) s)
-      (told-given now lines (All-tail (λ (l : ScriptLine). MayTell takes (told l.1)) line lines may))
-
-  due-told : (now : ℕ) (lines : List ScriptLine) → AreTold told takes lines → AreTold told takes (due_lines now lines)
-  due-told now lines may = All-take (λ (l : ScriptLine). MayTell takes (told l.1)) (due_count now lines) lines may
-
-  later-told : (now : ℕ) (lines : List ScriptLine) → AreTold told takes lines
-      → AreTold told takes (later_lines now lines)
-  later-told now lines may = All-drop (λ (l : ScriptLine). MayTell takes (told l.1)) (due_count now lines) lines may
+  told-given now (telling ∷ tellings) may s =
+      more-given (tells machine side now telling s) (all_told machine side now tellings)
+      (tell-given now telling (All-head (IsTaken takes) telling tellings may) s)
+      (told-given now tellings (All-tail (IsTaken takes) telling tellings may))
 
   answered-given :
-      (now : ℕ) (lines : List ScriptLine) (input : Input C) → AreTold told takes lines → MayTake takes input → (s : S)
-      → MayMeet (answered machine side told now lines input s)
-  answered-given now lines input may takes-it s =
-      more-given (all_told machine side told now lines s) (stepped machine side now input)
-      (told-given now lines may s) (step-given now input takes-it)
+      (now : ℕ) (coming : Q) (input : Input C) → May coming → MayTake takes input → (s : S)
+      → MayMeet (answered machine side now (commands.come now coming) input s)
+  answered-given now coming input may takes-it s =
+      more-given (all_told machine side now (commands.come now coming) s) (stepped machine side now input)
+      (told-given now (commands.come now coming) (brings.come now coming may) s) (step-given now input takes-it)
 
   turned-given :
-      (lines : List ScriptLine) (before : ℕ) (answer : LinkIn) (answers : List LinkIn)
-      → AreTold told takes lines → GiveBytes (answer ∷ answers) → (s : S)
-      → MayMeet (turned machine due told side lines before answer s)
-  turned-given lines before (link.Char byte now) answers may bytes s =
-      given-both takes (met_by (upon machine due told side lines before (link.Char byte now) s).acts) []
-      (answered-given now (due_lines now lines) (Char byte) (due-told now lines may) bytes.0 s) tt
-  turned-given lines before (link.Quiet now) answers may bytes s =
-      given-both takes (met_by (upon machine due told side lines before (link.Quiet now) s).acts) []
-      (answered-given now (due_lines now lines) Time (due-told now lines may) tt s) tt
-  turned-given lines before link.Closed answers may bytes s = tt
-  turned-given lines before link.Failed answers may bytes s = tt
+      (coming : Q) (before : ℕ) (answer : LinkIn) (answers : List LinkIn)
+      → May coming → GiveBytes (answer ∷ answers) → (s : S)
+      → MayMeet (turned machine due commands side coming before answer s)
+  turned-given coming before (link.Char byte now) answers may bytes s =
+      given-both takes (met_by (upon machine due commands side coming before (link.Char byte now) s).acts) []
+      (answered-given now coming (Char byte) may bytes.0 s) tt
+  turned-given coming before (link.Quiet now) answers may bytes s =
+      given-both takes (met_by (upon machine due commands side coming before (link.Quiet now) s).acts) []
+      (answered-given now coming Time may tt s) tt
+  turned-given coming before link.Closed answers may bytes s = tt
+  turned-given coming before link.Failed answers may bytes s = tt
 
   polled-given :
-      (n : ℕ) (lines : List ScriptLine) (before : ℕ) (answers : List LinkIn) → AreTold told takes lines
-      → GiveBytes answers → (s : S) → MayMeet (polled machine due told side n lines before answers s)
-  polled-given zero lines before answers may bytes s = tt
-  polled-given (suc n) lines before [] may bytes s = tt
-  polled-given (suc n) lines before (answer ∷ answers) may bytes s =
+      (n : ℕ) (coming : Q) (before : ℕ) (answers : List LinkIn) → May coming
+      → GiveBytes answers → (s : S) → MayMeet (polled machine due commands side n coming before answers s)
+  polled-given zero coming before answers may bytes s = tt
+  polled-given (suc n) coming before [] may bytes s = tt
+  polled-given (suc n) coming before (answer ∷ answers) may bytes s =
       let now = moment_after before answer in
-      more-given (turned machine due told side lines before answer s)
-      (polled machine due told side n (later_lines now lines) now answers)
-      (turned-given lines before answer answers may bytes s)
-      (polled-given n (later_lines now lines) now answers (later-told now lines may) bytes.1)
+      more-given (turned machine due commands side coming before answer s)
+      (polled machine due commands side n (commands.later now coming) now answers)
+      (turned-given coming before answer answers may bytes s)
+      (polled-given n (commands.later now coming) now answers (brings.later now coming may) bytes.1)
 
   pub run-given :
-      (start : Step S Happening) (lines : List ScriptLine) (polls : ℕ) (answers : List LinkIn)
-      → AreTold told takes lines → GiveBytes answers
-      → AreGiven takes (met_by (started_run machine due told side start lines polls answers).acts)
-  run-given start lines polls answers may bytes =
-      more-given (begun machine due told side start) (polled machine due told side polls lines 0 answers)
+      (start : Step S Happening) (coming : Q) (polls : ℕ) (answers : List LinkIn)
+      → May coming → GiveBytes answers
+      → AreGiven takes (met_by (commanded_run machine due commands side start coming polls answers).acts)
+  run-given start coming polls answers may bytes =
+      more-given (begun machine side start) (polled machine due commands side polls coming 0 answers)
       (more-given (started {C = C} side start) (stepped machine side 0 Time) tt
       (step-given 0 Time tt))
-      (polled-given polls lines 0 answers may bytes)
+      (polled-given polls coming 0 answers may bytes)

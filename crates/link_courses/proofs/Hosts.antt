@@ -22,7 +22,7 @@ use Rattle.host_node.specs.Host.{HasPlan, HostOwn, Kind, end_plan, host_machine}
 use Rattle.host_node.specs.Lawful.{host_lawful}
 use Rattle.end_pair.specs.Noted.{noted_by}
 use Rattle.end_run.specs.Pieces.{Piece}
-use Rattle.end_run.specs.Script.{AreTold, ScriptLine}
+use Rattle.end_run.specs.Script.{AreTold, ScriptLine, by_script}
 use Rattle.end_run.specs.Sides.{told_host}
 use Rattle.end_run.proofs.Sides.{are_told}
 use Rattle.gemline_app.specs.Files.{PlansAre}
@@ -38,7 +38,7 @@ use Rattle.link_courses.specs.Host.{AreAny, HostRanInCourse, HostRanLawfully, Ho
 use Rattle.link_courses.specs.Lawful.{GiveBytes, KeepsLawOfEnd}
 use Rattle.link_courses.specs.Noting.{HasNoted}
 use Rattle.link_courses.proofs.Coming.{run-so}
-use Rattle.link_courses.proofs.Given.{run-given}
+use Rattle.link_courses.proofs.Given.{run-given, script-brings}
 use Rattle.link_courses.proofs.Lawful.{first-done}
 use Rattle.link_courses.proofs.Noting.{has-noted, there-first}
 use Rattle.link_courses.proofs.Replying.{replies-noted}
@@ -59,8 +59,9 @@ module _ (plan : HostPlan) (fits : HostPlanFits plan) (lines : List ScriptLine)
       first-done (end_plan plan) (Did (HasPlan plan) (end_plan plan)) HostCommandFits (host_start plan) host_machine
       (host_lawful plan tt fits tt) AreAny (λ base doings s did. tt) (λ doing before any. tt) (λ doings any. tt)
       (run answers).ended (met_by (run answers).acts) later noted
-      (run-given host_machine host_due told_host side.Host HostCommandFits (host_start plan) lines polls answers told
-      bytes) is
+      (run-given host_machine host_due (by_script told_host) side.Host HostCommandFits
+      (AreTold told_host HostCommandFits) (script-brings told_host HostCommandFits) (host_start plan) lines polls
+      answers told bytes) is
       in
       record { done = done; replies = replies-noted (end_plan plan) AreAny noted done }
 
@@ -71,7 +72,7 @@ module _ (plan : HostPlan) (fits : HostPlanFits plan) (lines : List ScriptLine)
       let b = after_run link out was.left was.room was.stop in
       let noted : HasNoted host_machine (host_start plan) side.Host (host_run plan lines polls) a b was.ended =
       has-noted host_machine (host_start plan) side.Host (host_run plan lines polls) a b
-      (run-so host_machine (host_start plan) side.Host host_due told_host lines polls) was.ended was.runs
+      (run-so host_machine (host_start plan) side.Host host_due (by_script told_host) lines polls) was.ended was.runs
       in
       let first = there-first was.ended (whole noted.answers) (noted_by side.Host noted.log) noted.there in
       record {

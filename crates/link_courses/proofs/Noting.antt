@@ -15,7 +15,7 @@ use Rattle.end_run.specs.Acts.{Act, lines_of, log_of}
 use Rattle.end_run.specs.Acts.Act.{Stands, Writes}
 use Rattle.end_run.specs.Outcome.{Does, PutsLast, RunsOver}
 use Rattle.end_run.specs.Pieces.{Piece}
-use Rattle.end_run.specs.Run.{started_run}
+use Rattle.end_run.specs.Run.{commanded_run}
 use Rattle.end_run.specs.Scenes.{Scene}
 use Rattle.end_run.specs.declared.ending.Ending.{Ending}
 use Rattle.end_run.specs.declared.ending.Ending.TheVariants.{Closed, DiskFailed, Full, LinkFailed, NoMemory, NumbersSpent, Stopped, Turns, WriteFailed}
@@ -215,10 +215,10 @@ module _ {S C : Type 0} (machine : Machine S C) (start : Step S Happening) (side
   pub has-noted : (result : Ending) → RunsOver a b run result → HasNoted machine start side run a b result
   has-noted result over = by-ending result over over.runs
 
-pub note-courses : {S C : Type 0} → RunsNoteCourses S C
-note-courses machine due told side start lines polls a b result over =
-    has-noted machine start side (started_run machine due told side start lines polls) a b
-    (are-courses machine due told side start lines polls) result over
+pub note-courses : {S C Q : Type 0} → RunsNoteCourses S C Q
+note-courses machine due commands side start coming polls a b result over =
+    has-noted machine start side (commanded_run machine due commands side start coming polls) a b
+    (are-courses machine due commands side start coming polls) result over
 
 -- ---- all of them, or the first ones
 

@@ -35,7 +35,7 @@ use Rattle.tool_step.specs.Equipment.{EquipmentView, is_marked_out, started_on, 
 use Rattle.tool_step.specs.Step.{end_plan}
 use Rattle.end_pair.specs.Noted.{noted_by}
 use Rattle.end_run.specs.Pieces.{Piece}
-use Rattle.end_run.specs.Script.{AreTold, ScriptLine}
+use Rattle.end_run.specs.Script.{AreTold, ScriptLine, by_script}
 use Rattle.end_run.specs.Sides.{told_equipment}
 use Rattle.end_run.specs.declared.ending.Ending.{Ending}
 use Rattle.end_run.proofs.Sides.{are_told_tool}
@@ -52,7 +52,7 @@ use Rattle.link_courses.specs.Equipment.{EquipmentsKeepTheirLaws, KeepsLaws, Ran
 use Rattle.link_courses.specs.Lawful.{GiveBytes, KeepsLawOfEnd}
 use Rattle.link_courses.specs.Noting.{HasNoted}
 use Rattle.link_courses.proofs.Coming.{run-so}
-use Rattle.link_courses.proofs.Given.{run-given}
+use Rattle.link_courses.proofs.Given.{run-given, script-brings}
 use Rattle.link_courses.proofs.Kept.{closing-keeps, first-keeps}
 use Rattle.link_courses.proofs.Lawful.{first-done}
 use Rattle.link_courses.proofs.Noting.{has-noted, there-first}
@@ -84,7 +84,7 @@ is-course :
     → IsCourse machine start side.Equipment (equipment_run start lines polls answers)
 is-course start lines polls answers =
     let run = equipment_run start lines polls answers in
-    let is = run-so linked_machine start side.Equipment equipment_due told_equipment lines polls answers in
+    let is = run-so linked_machine start side.Equipment equipment_due (by_script told_equipment) lines polls answers in
     let same = course-same start (met_by run.acts) in
     record {
       notes = is.notes;
@@ -152,7 +152,8 @@ module _ (law : EquipmentKeepsItsLaw) (reports : ReportsAreOfTheirEvents) (spool
           first-done (end_plan plan) (DidOf plan) ToolCommandFits start machine kept-law (AreTried (end_plan plan))
           (λ base doings s did. did.tried) (λ doing before tried. tried.1) (λ doings tried. (tt, tried)) run.ended
           (met_by run.acts) later noted
-          (run-given linked_machine equipment_due told_equipment side.Equipment ToolCommandFits start lines polls
+          (run-given linked_machine equipment_due (by_script told_equipment) side.Equipment ToolCommandFits
+          (AreTold told_equipment ToolCommandFits) (script-brings told_equipment ToolCommandFits) start lines polls
           answers told bytes) is
           in
           record {

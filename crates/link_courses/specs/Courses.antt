@@ -2,7 +2,6 @@
 use Rattle.std.specs.Prelude.{◌≡◌, ◌++◌, ℕ, List, [], ◌∷◌, Option, Some}
 use Rattle.gl_base.specs.declared.link.LinkIn.{LinkIn}
 use Rattle.gl_base.specs.declared.side.Side.{Side}
-use Rattle.line_schedule.specs.declared.script.ScriptStep.{ScriptStep}
 use Rattle.message_end.specs.Core.{Step}
 use Rattle.message_end.specs.Course.{Course, Meeting, course_of, notes_of}
 use Rattle.message_end.specs.Course.Course.{Reached, Stopped}
@@ -13,9 +12,9 @@ use Rattle.trace_log.specs.Log.Entry.{Ended, Noted, Slipped}
 use Rattle.end_pair.specs.Noted.{noted_by}
 use Rattle.end_run.specs.Acts.{Act, log_of}
 use Rattle.end_run.specs.Acts.Act.{Connects, Polls, Sends, Stands, Writes}
+use Rattle.end_run.specs.Commands.{Commands}
 use Rattle.end_run.specs.Pieces.{Piece}
-use Rattle.end_run.specs.Run.{started_run}
-use Rattle.end_run.specs.Script.{ScriptLine, Telling}
+use Rattle.end_run.specs.Run.{commanded_run}
 use Rattle.end_run.specs.declared.ending.Ending.{Ending}
 use Rattle.end_run.specs.declared.ending.Ending.TheVariants as ending
 
@@ -67,9 +66,9 @@ pub record IsCourse {S C : Type 0} (machine : Machine S C) (start : Step S Happe
       ≡ with_closing run.ended (notes_of (course_of start machine (met_by run.acts)))
   pub comes : ComesTo run.ended run.end (course_of start machine (met_by run.acts))
 
--- so it is in every run of every end, by whatever script, and whatever the link answers
-abbrev pub RunsAreCourses : Type 0 → Type 0 → Type 0
-RunsAreCourses S C =
-    (machine : Machine S C) (due : S → Option ℕ) (told : ScriptStep → Telling C) (side : Side)
-    (start : Step S Happening) (lines : List ScriptLine) (polls : ℕ) (answers : List LinkIn)
-    → IsCourse machine start side (started_run machine due told side start lines polls answers)
+-- so it is in every run of every end, whatever commands it, and whatever the link answers
+abbrev pub RunsAreCourses : Type 0 → Type 0 → Type 0 → Type 0
+RunsAreCourses S C Q =
+    (machine : Machine S C) (due : S → Option ℕ) (commands : Commands Q C) (side : Side)
+    (start : Step S Happening) (coming : Q) (polls : ℕ) (answers : List LinkIn)
+    → IsCourse machine start side (commanded_run machine due commands side start coming polls answers)

@@ -4,18 +4,17 @@ use Rattle.std.specs.Prelude.{◌≡◌, ◌++◌, ℕ, List, Option, Some}
 use Rattle.gl_base.specs.Sink.{with_bytes}
 use Rattle.gl_base.specs.declared.link.LinkIn.{LinkIn}
 use Rattle.gl_base.specs.declared.side.Side.{Side}
-use Rattle.line_schedule.specs.declared.script.ScriptStep.{ScriptStep}
 use Rattle.message_end.specs.Core.{Step}
 use Rattle.message_end.specs.Course.{course_of, notes_of}
 use Rattle.message_end.specs.Ends.{Machine}
 use Rattle.trace_log.specs.Log.{Entry, Happening}
 use Rattle.trace_log.specs.Text.{text_of}
 use Rattle.end_pair.specs.Noted.{noted_by}
+use Rattle.end_run.specs.Commands.{Commands}
 use Rattle.end_run.specs.Outcome.{AreToCome, RunsOver}
 use Rattle.end_run.specs.Pieces.{Piece}
-use Rattle.end_run.specs.Run.{started_run}
+use Rattle.end_run.specs.Run.{commanded_run}
 use Rattle.end_run.specs.Scenes.{Scene}
-use Rattle.end_run.specs.Script.{ScriptLine, Telling}
 use Rattle.end_run.specs.declared.ending.Ending.{Ending}
 use Rattle.end_run.specs.declared.ending.Ending.TheVariants.{Closed, DiskFailed, Full, LinkFailed, NoMemory, NumbersSpent, Stopped, Turns, WriteFailed}
 use Rattle.link_courses.specs.Courses.{AreNotesOf, met_by, with_closing}
@@ -82,9 +81,9 @@ pub record HasNoted {S C : Type 0}
   pub written : AreWritten result a.received b.received (text_of log)
 
 -- so has every run of every end
-abbrev pub RunsNoteCourses : Type 0 → Type 0 → Type 0
-RunsNoteCourses S C =
-    (machine : Machine S C) (due : S → Option ℕ) (told : ScriptStep → Telling C) (side : Side)
-    (start : Step S Happening) (lines : List ScriptLine) (polls : ℕ) (a b : Scene S C) (result : Ending)
-    → RunsOver a b (started_run machine due told side start lines polls) result
-    → HasNoted machine start side (started_run machine due told side start lines polls) a b result
+abbrev pub RunsNoteCourses : Type 0 → Type 0 → Type 0 → Type 0
+RunsNoteCourses S C Q =
+    (machine : Machine S C) (due : S → Option ℕ) (commands : Commands Q C) (side : Side)
+    (start : Step S Happening) (coming : Q) (polls : ℕ) (a b : Scene S C) (result : Ending)
+    → RunsOver a b (commanded_run machine due commands side start coming polls) result
+    → HasNoted machine start side (commanded_run machine due commands side start coming polls) a b result

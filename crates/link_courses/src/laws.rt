@@ -11,16 +11,16 @@ use tool_law::equipment_keeps_the_law;
 use tool_reports::reports_are_of_their_events;
 use tool_spool::{messages_leave_in_step, overwrites_for_puts, spool_is_kept};
 
-/// All that an end notes in a run over a link is what a course of it brings, of the steps that the run makes and of
-/// nothing else; where the peer closes the connection, that is noted behind them.
-pub fn runs_are_courses<E: LinkedEnd>()
-    ensures { RunsAreCourses E.State E.Command }
+/// All that an end notes in a run over a link, whatever commands it, is what a course of it brings, of the steps that
+/// the run makes and of nothing else; where the peer closes the connection, that is noted behind them.
+pub fn runs_are_courses<E: LinkedEnd, Q>()
+    ensures { RunsAreCourses E.State E.Command Q }
 {}
 
 /// The output has received the lines of that, all of them, or where memory, output, link or disk has ended the run, of
 /// what comes first of it.
-pub fn runs_note_courses<E: LinkedEnd>()
-    ensures { RunsNoteCourses E.State E.Command }
+pub fn runs_note_courses<E: LinkedEnd, Q>()
+    ensures { RunsNoteCourses E.State E.Command Q }
 {}
 
 /// Examples of runs: one that is a course of its end, and others that are none, with a note of no step, with notes that
