@@ -1,5 +1,5 @@
 -- What a wait answers that what comes from elsewhere ends as well, and what the link counts (this profile).
-use Rattle.std.specs.Prelude.{◌≡◌, ◌⊎◌, ◌<◌, ◌≤◌, ℕ, Bool, true, false, not, ◌||◌, List, is_empty, Option, Some, None}
+use Rattle.std.specs.Prelude.{◌≡◌, ◌⊎◌, ◌<◌, ◌≤◌, ℕ, Bool, true, false, not, ◌||◌, ◌==◌, List, length, Option, Some, None}
 use Rattle.gl_base.specs.Events.{IsMomentFrom}
 use Rattle.gl_base.specs.Faults.{Rose}
 use Rattle.gl_base.specs.Link.{LinkHealth}
@@ -10,16 +10,16 @@ use Rattle.gl_base.specs.declared.link.LinkIn.TheVariants.{Char, Quiet, Closed, 
 
 -- something came with the answer: bytes, or news
 abbrev pub brings : List ℕ → Bool → Bool
-brings bytes news = not (is_empty bytes) || news
+brings bytes news = not (length bytes == 0) || news
 
--- an answer's moment is no earlier than the one before; a quiet one that brings nothing is the moment asked for or
--- later, or at least later than the one before
+-- an answer's moment is no earlier than the one before; a quiet one is the moment asked for or later, or at least later
+-- than the one before, unless something that came has brought it early
 abbrev pub IsTimelyWith : Bool → ℕ → ℕ → LinkIn → Type 0
-IsTimelyWith brings until before (Char byte moment) = IsMomentFrom before moment
-IsTimelyWith brings until before (Quiet moment) =
-    IsMomentFrom before moment × (brings ≡ false → (until ≤ moment) ⊎ (before < moment))
-IsTimelyWith brings until before Closed = Unit {0}
-IsTimelyWith brings until before Failed = Unit {0}
+IsTimelyWith early until before (Char byte moment) = IsMomentFrom before moment
+IsTimelyWith early until before (Quiet moment) =
+    IsMomentFrom before moment × (early ≡ false → (until ≤ moment) ⊎ (before < moment))
+IsTimelyWith early until before Closed = Unit {0}
+IsTimelyWith early until before Failed = Unit {0}
 
 -- a character of this moment, or that none has come where that is to be said
 abbrev pub IsAnswerAt : Bool → ℕ → Option LinkIn → Type 0
