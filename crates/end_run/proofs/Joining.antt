@@ -8,10 +8,9 @@ use Rattle.gl_base.specs.declared.link.LinkEntry.{LinkEntry}
 use Rattle.gl_base.specs.declared.link.LinkIn.{LinkIn}
 use Rattle.gl_base.proofs.Appending.{wrote_both, wrote_nothing}
 use Rattle.message_end.specs.Ends.{Asked, IsLeft as LeavesRoom, IsShort, asked_both, none_asked}
-use Rattle.message_end.proofs.LogText.{text_of-append}
 use Rattle.trace_log.specs.Log.{Entry}
 use Rattle.trace_log.specs.Text.{text_of}
-use Rattle.end_run.specs.Acts.{Act, StepAt, AreTimely, asked_by, end_by, end_with, lines_of, list_of, listed, log_of, moment_by, moment_with, noted, taken, taken_of}
+use Rattle.end_run.specs.Acts.{Act, StepAt, AreTimely, asked_by, end_by, end_with, lines_of, list_of, listed, moment_by, moment_with, taken, taken_of, written_in}
 use Rattle.end_run.specs.Acts.Act.{Connects, Polls, Sends, Stands, Writes}
 use Rattle.end_run.specs.Outcome.{Did, DiskFails, GoesOn, HasListed, IsLeft, IsSpent, LacksMemory, LinkFails, Linked, Lists, Made, MadePart, PutsLast, WriteFails}
 use Rattle.end_run.specs.Scenes.{Scene, StopAt, written}
@@ -32,17 +31,12 @@ taken_of-append (act ∷ first) second =
     ap (λ (answers : List LinkIn). taken act ++ answers) (taken_of-append first second)
     ∙ sym (append_assoc (taken act) (taken_of first) (taken_of second))
 
-log_of-append : {S C : Type 0} (first second : List (Act S C))
-    → log_of (first ++ second) ≡ log_of second ++ log_of first
-log_of-append [] second = sym (append-nil (log_of second))
-log_of-append (act ∷ first) second =
-    ap (λ (log : List Entry). log ++ noted act) (log_of-append first second)
-    ∙ append_assoc (log_of second) (log_of first) (noted act)
-
 pub lines_of-append : {S C : Type 0} (first second : List (Act S C))
     → lines_of (first ++ second) ≡ lines_of first ++ lines_of second
-lines_of-append first second =
-    ap text_of (log_of-append first second) ∙ text_of-append (log_of second) (log_of first)
+lines_of-append [] second = refl
+lines_of-append (act ∷ first) second =
+    ap (λ (text : List ℕ). written_in act ++ text) (lines_of-append first second)
+    ∙ sym (append_assoc (written_in act) (lines_of first) (lines_of second))
 
 list-length : {S C : Type 0} (first second : List (Act S C)) → length (list_of (first ++ second))
     ≡ length (list_of first) + length (list_of second)
@@ -69,8 +63,8 @@ left_on [] None mid now is more = absurd is
 left_on [] (Some before) mid now is more = more ∙ is
 left_on (Stands at stops asked end ∷ acts) before mid now is more = more
 left_on (Connects ∷ acts) before mid now is more = left_on acts before mid now is more
-left_on (Polls until answer ∷ acts) before mid now is more = left_on acts before mid now is more
-left_on (Writes entries ∷ acts) before mid now is more = left_on acts before mid now is more
+left_on (Polls until answer early ∷ acts) before mid now is more = left_on acts before mid now is more
+left_on (Writes entries text ∷ acts) before mid now is more = left_on acts before mid now is more
 left_on (Sends characters ∷ acts) before mid now is more = left_on acts before mid now is more
 
 end_by-append : {S C : Type 0} (before : Option S) (first second : List (Act S C))
@@ -332,6 +326,7 @@ module _ {S C : Type 0} {a b : Scene S C} (c : Scene S C) (first second : List (
     write_behind two = record {
       done = first ++ two.done;
       entries = two.entries;
+      text = two.text;
       later = two.later;
       whole = ap (λ (acts : List (Act S C)). first ++ acts) two.whole ∙ sym (append_assoc first two.done _);
       linked = linked_both two.done one.made.linked two.linked;
@@ -340,7 +335,7 @@ module _ {S C : Type 0} {a b : Scene S C} (c : Scene S C) (first second : List (
       short = two.short;
       received = received;
       fault =
-          write_fault_behind a.out b.out c.out _ _ _ (written-length first two.done (text_of two.entries))
+          write_fault_behind a.out b.out c.out _ _ _ (written-length first two.done two.text)
           one.made.wrote.health two.fault;
       end = ends two.end;
     }
@@ -351,7 +346,7 @@ module _ {S C : Type 0} {a b : Scene S C} (c : Scene S C) (first second : List (
         ends (inr spent) = inr (spent_behind two.done spent)
 
         rest : List ℕ
-        rest = take two.count (text_of two.entries)
+        rest = take two.count two.text
 
         received : c.received ≡ with_bytes a.received (lines_of (first ++ two.done) ++ rest)
         received =
@@ -371,6 +366,7 @@ module _ {S C : Type 0} {a b : Scene S C} (c : Scene S C) (first second : List (
       end = two.end;
       newer = two.newer;
       entries = two.entries;
+      text = two.text;
       later = two.later;
       whole = ap (λ (acts : List (Act S C)). first ++ acts) two.whole ∙ sym (append_assoc first two.done _);
       before = left_both a.end b.end two.at.state first two.done one.end two.before;
@@ -433,6 +429,7 @@ module _ {S C : Type 0} (a b : Scene S C) (first second : List (Act S C)) where
   write_before one = record {
     done = one.done;
     entries = one.entries;
+    text = one.text;
     later = one.later ++ second;
     whole = ap (λ (acts : List (Act S C)). acts ++ second) one.whole ∙ append_assoc one.done _ second;
     linked = one.linked;
@@ -453,6 +450,7 @@ module _ {S C : Type 0} (a b : Scene S C) (first second : List (Act S C)) where
     end = one.end;
     newer = one.newer;
     entries = one.entries;
+    text = one.text;
     later = one.later ++ second;
     whole = ap (λ (acts : List (Act S C)). acts ++ second) one.whole ∙ append_assoc one.done _ second;
     before = one.before;

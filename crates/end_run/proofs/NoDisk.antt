@@ -15,12 +15,12 @@ use Rattle.end_run.specs.declared.ending.Ending.TheVariants as ending
 use Rattle.end_run.specs.Acts.{Act, StepAt}
 use Rattle.end_run.specs.Acts.Act.{Connects, Polls, Sends, Stands, Writes}
 use Rattle.end_run.specs.Commands.{Commands, Telling}
-use Rattle.end_run.specs.Commands.Telling.{IsOther, Stops, Tells}
+use Rattle.end_run.specs.Commands.Telling.{IsOther, Says, Stops, Tells}
 use Rattle.end_run.specs.Outcome.{DiskFails, RunsOver}
 use Rattle.end_run.specs.Pieces.{Piece, and_more, and_on}
 use Rattle.end_run.specs.Run.{begun, commanded_run, polled, turned, upon}
 use Rattle.end_run.specs.Scenes.{Scene}
-use Rattle.end_run.specs.Steps.{all_told, answered, entries_at, made, sends, started, step_at, stepped, tells}
+use Rattle.end_run.specs.Steps.{all_told, answered, entries_at, made, replied, sends, started, step_at, stepped, tells}
 
 -- its machine lists nothing at which a disk may stop it
 abbrev pub StopsNowhere : {S C : Type 0} → Machine S C → Type 0
@@ -32,24 +32,24 @@ abbrev GoOn : {S C : Type 0} → List (Act S C) → Type 0
 GoOn [] = Unit {0}
 GoOn (Stands at stops asked end ∷ acts) = (stops ≡ []) × GoOn acts
 GoOn (Connects ∷ acts) = GoOn acts
-GoOn (Polls until answer ∷ acts) = GoOn acts
-GoOn (Writes entries ∷ acts) = GoOn acts
+GoOn (Polls until answer early ∷ acts) = GoOn acts
+GoOn (Writes entries text ∷ acts) = GoOn acts
 GoOn (Sends characters ∷ acts) = GoOn acts
 
 go-both : {S C : Type 0} (first second : List (Act S C)) → GoOn first → GoOn second → GoOn (first ++ second)
 go-both [] second one two = two
 go-both (Stands at stops asked end ∷ first) second one two = (one.0, go-both first second one.1 two)
 go-both (Connects ∷ first) second one two = go-both first second one two
-go-both (Polls until answer ∷ first) second one two = go-both first second one two
-go-both (Writes entries ∷ first) second one two = go-both first second one two
+go-both (Polls until answer early ∷ first) second one two = go-both first second one two
+go-both (Writes entries text ∷ first) second one two = go-both first second one two
 go-both (Sends characters ∷ first) second one two = go-both first second one two
 
 go-behind : {S C : Type 0} (first second : List (Act S C)) → GoOn (first ++ second) → GoOn second
 go-behind [] second all = all
 go-behind (Stands at stops asked end ∷ first) second all = go-behind first second all.1
 go-behind (Connects ∷ first) second all = go-behind first second all
-go-behind (Polls until answer ∷ first) second all = go-behind first second all
-go-behind (Writes entries ∷ first) second all = go-behind first second all
+go-behind (Polls until answer early ∷ first) second all = go-behind first second all
+go-behind (Writes entries text ∷ first) second all = go-behind first second all
 go-behind (Sends characters ∷ first) second all = go-behind first second all
 
 never : {S C : Type 0} (a b : Scene S C) (acts : List (Act S C)) → GoOn acts → DiskFails a b acts → ⊥
@@ -64,16 +64,20 @@ module _ {S C Q : Type 0} (machine : Machine S C) (due : S → Option ℕ) (comm
   sends-on [] = tt
   sends-on (byte ∷ bytes) = tt
 
-  made-on : (at : StepAt S C) (stops : List (List Happening)) (asked : Asked) (fills : Bool)
-      (went : Went S Happening) → stops ≡ [] → GoOn (made at stops asked fills went).acts
-  made-on at stops asked fills (Goes step) none =
+  made-on : (at : StepAt S C) (stops : List (List Happening)) (asked : Asked) (fills : Bool) (reply : List ℕ)
+      (went : Went S Happening) → stops ≡ [] → GoOn (made at stops asked fills reply went).acts
+  made-on at stops asked fills reply (Goes step) none =
       (ap (map (entries_at at.side at.moment)) none, sends-on step.written)
-  made-on at stops asked fills (Spent step) none = (ap (map (entries_at at.side at.moment)) none, tt)
+  made-on at stops asked fills reply (Spent step) none = (ap (map (entries_at at.side at.moment)) none, tt)
+
+  replied-on : (reply : List ℕ) (now : ℕ) (input : Input C) (s : S)
+      → GoOn (replied machine side reply now input s).acts
+  replied-on reply now input s =
+      made-on (step_at side now input s) (machine.stops s input now) (machine.asks s input now)
+      (machine.fills s input now) reply (machine.act s input now) (nowhere s input now)
 
   stepped-on : (now : ℕ) (input : Input C) (s : S) → GoOn (stepped machine side now input s).acts
-  stepped-on now input s =
-      made-on (step_at side now input s) (machine.stops s input now) (machine.asks s input now)
-      (machine.fills s input now) (machine.act s input now) (nowhere s input now)
+  stepped-on = replied-on []
 
   more-on : (first : Piece S C) (more : S → Piece S C) → GoOn first.acts → ((s : S) → GoOn (more s).acts)
       → GoOn (and_more first more).acts
@@ -84,7 +88,8 @@ module _ {S C Q : Type 0} (machine : Machine S C) (due : S → Option ℕ) (comm
       go (Some how) = one
 
   tells-on : (now : ℕ) (telling : Telling C) (s : S) → GoOn (tells machine side now telling s).acts
-  tells-on now (Tells command) s = stepped-on now (Command command) s
+  tells-on now (Tells command reply) s = replied-on reply now (Command command) s
+  tells-on now (Says text) s = tt
   tells-on now Stops s = tt
   tells-on now IsOther s = tt
 

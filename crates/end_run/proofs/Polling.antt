@@ -22,12 +22,12 @@ use Rattle.end_run.specs.Acts.{Act, StepAt, taken_by, taken_of}
 use Rattle.end_run.specs.Acts.Act.{Polls}
 use Rattle.end_run.specs.Calls.{HasTurned, Left, PollFails, Turned}
 use Rattle.end_run.specs.Commands.{Commands, Telling, wait_until}
-use Rattle.end_run.specs.Commands.Telling.{IsOther, Stops, Tells}
+use Rattle.end_run.specs.Commands.Telling.{IsOther, Says, Stops, Tells}
 use Rattle.end_run.specs.Outcome.{AreToCome, ComesOver, Did, LinkFails, Lists, Runs, RunsOver}
 use Rattle.end_run.specs.Pieces.{Piece, and_more, and_on, behind, stops}
 use Rattle.end_run.specs.Run.{polled, turned, upon}
 use Rattle.end_run.specs.Scenes.{Scene, StopAt, written}
-use Rattle.end_run.specs.Steps.{all_told, answered, made, sends, step_at, stepped, tells}
+use Rattle.end_run.specs.Steps.{all_told, answered, made, replied, sends, step_at, stepped, tells}
 use Rattle.end_run.proofs.Doing.{behind_both, more_on, runs_behind, runs_stop}
 use Rattle.end_run.proofs.Joining.{did_both, did_none, lists_still, taken_of-append}
 
@@ -58,15 +58,19 @@ module _ {S C : Type 0} (machine : Machine S C) (side : Side) where
   sends-none [] = refl
   sends-none (byte ∷ bytes) = refl
 
-  made-none : (at : StepAt S C) (stops : List (List Happening)) (asked : Asked) (fills : Bool)
-      (went : Went S Happening) → taken_of (made at stops asked fills went).acts ≡ []
-  made-none at stops asked fills (Goes step) = sends-none step.written
-  made-none at stops asked fills (Spent step) = refl
+  made-none : (at : StepAt S C) (stops : List (List Happening)) (asked : Asked) (fills : Bool) (reply : List ℕ)
+      (went : Went S Happening) → taken_of (made at stops asked fills reply went).acts ≡ []
+  made-none at stops asked fills reply (Goes step) = sends-none step.written
+  made-none at stops asked fills reply (Spent step) = refl
+
+  replied-none : (reply : List ℕ) (now : ℕ) (input : Input C) (s : S)
+      → taken_of (replied machine side reply now input s).acts ≡ []
+  replied-none reply now input s =
+      made-none (step_at side now input s) (machine.stops s input now) (machine.asks s input now)
+      (machine.fills s input now) reply (machine.act s input now)
 
   pub stepped-none : (now : ℕ) (input : Input C) (s : S) → taken_of (stepped machine side now input s).acts ≡ []
-  stepped-none now input s =
-      made-none (step_at side now input s) (machine.stops s input now) (machine.asks s input now)
-      (machine.fills s input now) (machine.act s input now)
+  stepped-none = replied-none []
 
   pub more-none : (first : Piece S C) (more : S → Piece S C) → taken_of first.acts ≡ []
       → ((s : S) → taken_of (more s).acts ≡ []) → taken_of (and_more first more).acts ≡ []
@@ -79,7 +83,8 @@ module _ {S C : Type 0} (machine : Machine S C) (side : Side) where
       go (Some how) = one
 
   tells-none : (now : ℕ) (telling : Telling C) (s : S) → taken_of (tells machine side now telling s).acts ≡ []
-  tells-none now (Tells command) s = stepped-none now (Command command) s
+  tells-none now (Tells command reply) s = replied-none reply now (Command command) s
+  tells-none now (Says text) s = refl
   tells-none now Stops s = refl
   tells-none now IsOther s = refl
 
@@ -252,10 +257,16 @@ module _ {S C Q : Type 0} (machine : Machine S C) (due : S → Option ℕ) (comm
                 of.more how runs.2)),
           )
 
-      -- the poll has failed: it is the first act of what is left, whatever was to come
+      -- the next poll, where it is answered so
+      abbrev poll : LinkIn → Act S C
+      poll answer =
+          Polls (wait_until (due before.end) (commands.asks before.coming)) answer
+          (commands.early (moment_after before.moment answer) before.coming)
+
+      -- it has failed: it is the first act of what is left, whatever was to come
       first_polls : (coming : List LinkIn)
           → (answer : LinkIn) × (later : List (Act S C))
-          × ((polls (suc n) before coming).acts ≡ Polls (wait_until (due before.end) (commands.asks before.coming)) answer ∷ later)
+          × ((polls (suc n) before coming).acts ≡ poll answer ∷ later)
       first_polls [] =
           (link.Closed, (upon machine due commands side before.coming before.moment link.Closed before.end).acts, refl)
       first_polls (answer ∷ answers) = go
@@ -271,7 +282,7 @@ module _ {S C Q : Type 0} (machine : Machine S C) (due : S → Option ℕ) (comm
 
           go : (ended : Option Ending)
               → (answer : LinkIn) × (later : List (Act S C))
-              × ((and_on ended one more).acts ≡ Polls (wait_until (due before.end) (commands.asks before.coming)) answer ∷ later)
+              × ((and_on ended one more).acts ≡ poll answer ∷ later)
           go None = (
             answer,
             (upon machine due commands side before.coming before.moment answer before.end).acts
@@ -289,13 +300,13 @@ module _ {S C Q : Type 0} (machine : Machine S C) (due : S → Option ℕ) (comm
           acts = (polls (suc n) before (rest_of b.contents)).acts
 
           of : (answer : LinkIn) × (later : List (Act S C))
-              × (acts ≡ Polls (wait_until (due before.end) (commands.asks before.coming)) answer ∷ later)
+              × (acts ≡ poll answer ∷ later)
           of = first_polls (rest_of b.contents)
 
           fails : LinkFails b (c None) acts
           fails = record {
             done = [];
-            failed = Polls (wait_until (due before.end) (commands.asks before.coming)) of.0;
+            failed = poll of.0;
             later = of.1;
             whole = of.2;
             part = [];

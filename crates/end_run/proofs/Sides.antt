@@ -1,5 +1,5 @@
 -- What the lines of a script tell an end is what it takes.
-use Rattle.std.proofs.Common.{ℕ, List, [], ◌∷◌, All, subst, inl, inr}
+use Rattle.std.proofs.Common.{ℕ, List, [], ◌∷◌, All, refl, subst, inl, inr}
 use Rattle.std.proofs.lemmas.List.Elements.{All-cons, All-head, All-nil, All-same, All-tail}
 use Rattle.gl_base.specs.declared.side.Side.{Side}
 use Rattle.gl_base.specs.declared.side.Side.TheVariants as side
@@ -17,13 +17,13 @@ use Rattle.end_run.specs.Sides.{told_equipment, told_host}
 told_line : (line : ScriptLine) (text : List ℕ) → IsScriptLine side.Host line text → LineFits line
     → MayTell HostCommandFits (told_host line.1)
 told_line (moment, step.Tool command) text spaced fits = spaced.4
-told_line (moment, step.Host command) text spaced fits = fits.1
+told_line (moment, step.Host command) text spaced fits = (fits.1, refl)
 told_line (moment, step.Stop) text spaced fits = tt
 
 -- so does one of the equipment
 told_tool_line : (line : ScriptLine) (text : List ℕ) → IsScriptLine side.Equipment line text → LineFits line
     → MayTell ToolCommandFits (told_equipment line.1)
-told_tool_line (moment, step.Tool command) text spaced fits = fits.1
+told_tool_line (moment, step.Tool command) text spaced fits = (fits.1, refl)
 told_tool_line (moment, step.Host command) text spaced fits = spaced.4
 told_tool_line (moment, step.Stop) text spaced fits = tt
 

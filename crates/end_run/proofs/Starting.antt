@@ -1,5 +1,5 @@
 -- The start of a run.
-use Rattle.std.proofs.Common.{◌≡◌, ℕ, List, [], ◌∷◌, ◌++◌, Option, Some, None, refl, sym, ap, subst, ◌∙◌}
+use Rattle.std.proofs.Common.{◌≡◌, ℕ, List, [], ◌∷◌, ◌++◌, append-nil, Option, Some, None, refl, sym, ap, subst, ◌∙◌}
 use Rattle.gl_base.specs.Link.{IsCarriedOn, LinkContents, LinkFault, LinkHealth}
 use Rattle.gl_base.specs.Sending.{WroteText}
 use Rattle.gl_base.specs.Sink.{SinkHealth}
@@ -58,16 +58,25 @@ module _ {S C Q : Type 0} (machine : Machine S C) (due : S → Option ℕ) (comm
   start_stops a b how runs =
       ends_early a b how (runs_stop a b (started side start) (stepped machine side 0 Time) how runs)
 
+  -- what is written of it
+  abbrev pub lines : List ℕ
+  lines = text_of entries ++ []
+
   module _ (a : Scene S C) (text : List ℕ) (is : text_of entries ≡ text) (r' : Option (List ℕ)) (k' : SinkHealth) where
+    same_text : text ≡ lines
+    same_text = sym (append-nil (text_of entries) ∙ is)
+
     -- it stopped at the lines of its start
     pub start_falls : (how : Ending) → StopsAtStart (written a (with_out a r' k')) text how
         → RunsOver a (with_out a r' k') all_of how
-    start_falls how falls = start_stops a (with_out a r' k') how (go how falls)
+    start_falls how falls =
+        start_stops a (with_out a r' k') how
+        (go how (subst (λ (t : List ℕ). StopsAtStart (written a (with_out a r' k')) t how) same_text falls))
       where
-        go : (how : Ending) → StopsAtStart (written a (with_out a r' k')) text how
+        go : (how : Ending) → StopsAtStart (written a (with_out a r' k')) lines how
             → Runs a (with_out a r' k') (started side start) (Some how)
-        go WriteFailed short = short_fails a r' k' entries text is (Connects ∷ []) short
-        go NoMemory none = none_wrote a r' k' entries text is (Connects ∷ []) none
+        go WriteFailed short = short_fails a r' k' entries lines (Connects ∷ []) short
+        go NoMemory none = none_wrote a r' k' entries lines (Connects ∷ []) none
         go Stopped falls = absurd falls
         go Closed falls = absurd falls
         go Turns falls = absurd falls
@@ -82,12 +91,13 @@ module _ {S C Q : Type 0} (machine : Machine S C) (due : S → Option ℕ) (comm
       abbrev pub called : Scene S C
       called = with_link (with_out a r' k') l' m' h'
 
-      wrote : WroteText (written a called) (text_of entries)
-      wrote = subst (λ (t : List ℕ). WroteText (written a called) t) (sym is) text_wrote
+      wrote : WroteText (written a called) (lines ++ [])
+      wrote =
+          subst (λ (t : List ℕ). WroteText (written a called) t) (same_text ∙ sym (append-nil lines)) text_wrote
 
-      linked : Linked a called (Writes entries ∷ Connects ∷ [])
+      linked : Linked a called (Writes entries lines ∷ Connects ∷ [])
       linked = record {
-        listed = lists_still a.contents l' (Writes entries ∷ Connects ∷ []) refl refl same;
+        listed = lists_still a.contents l' (Writes entries lines ∷ Connects ∷ []) refl refl same;
         clock = anew;
         timely = (tt, (tt, tt));
       }
@@ -95,7 +105,7 @@ module _ {S C Q : Type 0} (machine : Machine S C) (due : S → Option ℕ) (comm
       -- it didn't connect
       pub connects_not : LinkFault a.link h' 0 → RunsOver a called all_of LinkFailed
       connects_not fault = start_stops a called LinkFailed (record {
-        done = Writes entries ∷ [];
+        done = Writes entries lines ∷ [];
         failed = Connects;
         later = [];
         whole = refl;

@@ -31,7 +31,7 @@ use Rattle.end_run.specs.Acts.Act.{Sends, Stands, Writes}
 use Rattle.end_run.specs.Calls.{EndsWith, IsExact, PutsAsCan}
 use Rattle.end_run.specs.Outcome.{Comes, Did, DiskFails, Does, IsSpent, Linked, Lists, Made, MadePart, PutsLast, Runs, WriteFails, stop_for}
 use Rattle.end_run.specs.Scenes.{Scene, StopAt, written}
-use Rattle.end_run.specs.Steps.{entries_at, made, sends, spent_for, stands}
+use Rattle.end_run.specs.Steps.{entries_at, made, notes_at, sends, spent_for, stands}
 use Rattle.end_run.proofs.Doing.{does_behind}
 use Rattle.end_run.proofs.Joining.{carried_none, did_none, did_step, goes_none, lists_still, made_both, made_none, made_step, room_none, with_end}
 
@@ -66,63 +66,64 @@ abbrev pub with_out : {S C : Type 0} → Scene S C → Option (List ℕ) → Sin
 with_out a received out = record a { received = received; out = out }
 
 module _ {S C : Type 0} (a : Scene S C) (r' : Option (List ℕ)) (k' : SinkHealth) (entries : List Entry) (text : List ℕ)
-    (is : text_of entries ≡ text) where
-  linked_out : Linked a (with_out a r' k') []
-  linked_out = record { listed = lists_still a.contents a.contents [] refl refl refl; clock = refl; timely = tt }
+  where
+    linked_out : Linked a (with_out a r' k') []
+    linked_out = record { listed = lists_still a.contents a.contents [] refl refl refl; clock = refl; timely = tt }
 
-  pub wrote_made : WroteText (written a (with_out a r' k')) text → Made a (with_out a r' k') (Writes entries ∷ [])
-  wrote_made text_wrote = record {
-    linked = record {
-      listed = lists_still a.contents a.contents (Writes entries ∷ []) refl refl refl;
-      clock = refl;
-      timely = (tt, tt);
-    };
-    carried = carried_none a.link;
-    wrote = subst (λ (t : List ℕ). WroteText (written a (with_out a r' k')) t) (sym is) text_wrote;
-  }
+    pub wrote_made : WroteText (written a (with_out a r' k')) text → Made a (with_out a r' k') (Writes entries text ∷ [])
+    wrote_made text_wrote = record {
+      linked = record {
+        listed = lists_still a.contents a.contents (Writes entries text ∷ []) refl refl refl;
+        clock = refl;
+        timely = (tt, tt);
+      };
+      carried = carried_none a.link;
+      wrote = subst (λ (t : List ℕ). WroteText (written a (with_out a r' k')) t) (sym (append-nil text)) text_wrote;
+    }
 
-  pub wrote_did : WroteText (written a (with_out a r' k')) text → Did a (with_out a r' k') (Writes entries ∷ [])
-  wrote_did text_wrote = record { made = wrote_made text_wrote; end = refl; room = room_none a.room; stop = refl }
+    pub wrote_did : WroteText (written a (with_out a r' k')) text → Did a (with_out a r' k') (Writes entries text ∷ [])
+    wrote_did text_wrote = record { made = wrote_made text_wrote; end = refl; room = room_none a.room; stop = refl }
 
-  pub short_fails : (more : List (Act S C)) → WroteShort (written a (with_out a r' k')) text
-      → WriteFails a (with_out a r' k') (Writes entries ∷ more)
-  short_fails more short = record {
-    done = [];
-    entries = entries;
-    later = more;
-    whole = refl;
-    linked = linked_out;
-    carried = carried_none a.link;
-    count = short.count;
-    short = subst (λ (t : List ℕ). short.count < length t) (sym is) short.short;
-    received = short.received ∙ ap (λ (t : List ℕ). with_bytes a.received (take short.count t)) (sym is);
-    fault = subst (λ (t : List ℕ). WriteFault a.out k' (length t)) (sym is) short.fault;
-    end = inl (record { end = refl; stop = refl });
-  }
+    pub short_fails : (more : List (Act S C)) → WroteShort (written a (with_out a r' k')) text
+        → WriteFails a (with_out a r' k') (Writes entries text ∷ more)
+    short_fails more short = record {
+      done = [];
+      entries = entries;
+      text = text;
+      later = more;
+      whole = refl;
+      linked = linked_out;
+      carried = carried_none a.link;
+      count = short.count;
+      short = short.short;
+      received = short.received;
+      fault = short.fault;
+      end = inl (record { end = refl; stop = refl });
+    }
 
-  -- nothing was written, for want of memory
-  pub none_wrote : (more : List (Act S C)) → WroteText (written a (with_out a r' k')) []
-      → MadePart a (with_out a r' k') (Writes entries ∷ more)
-  none_wrote more none = record {
-    done = [];
-    later = Writes entries ∷ more;
-    whole = refl;
-    made = record { linked = linked_out; carried = carried_none a.link; wrote = none };
-    end = inl (record { end = refl; stop = refl });
-  }
+    -- nothing was written, for want of memory
+    pub none_wrote : (more : List (Act S C)) → WroteText (written a (with_out a r' k')) []
+        → MadePart a (with_out a r' k') (Writes entries text ∷ more)
+    none_wrote more none = record {
+      done = [];
+      later = Writes entries text ∷ more;
+      whole = refl;
+      made = record { linked = linked_out; carried = carried_none a.link; wrote = none };
+      end = inl (record { end = refl; stop = refl });
+    }
 
-  -- these lines are the last of a run
-  pub ends_does : (how result : Ending) → how ≢ NumbersSpent → how ≢ Full → EndsWith (written a (with_out a r' k')) text how result
-      → Does a (with_out a r' k') (Some how) (Writes entries ∷ []) (Some result)
-  ends_does how Stopped other full ends = (ap Some ends.0, wrote_did ends.1)
-  ends_does how Closed other full ends = (ap Some ends.0, wrote_did ends.1)
-  ends_does how Turns other full ends = (ap Some ends.0, wrote_did ends.1)
-  ends_does how NumbersSpent other full ends = absurd (other ends.0)
-  ends_does how Full other full ends = absurd (full ends.0)
-  ends_does how DiskFailed other full ends = absurd ends
-  ends_does how LinkFailed other full ends = absurd ends
-  ends_does how WriteFailed other full short = short_fails [] short
-  ends_does how NoMemory other full none = none_wrote [] none
+    -- these lines are the last of a run
+    pub ends_does : (how result : Ending) → how ≢ NumbersSpent → how ≢ Full → EndsWith (written a (with_out a r' k')) text how result
+        → Does a (with_out a r' k') (Some how) (Writes entries text ∷ []) (Some result)
+    ends_does how Stopped other full ends = (ap Some ends.0, wrote_did ends.1)
+    ends_does how Closed other full ends = (ap Some ends.0, wrote_did ends.1)
+    ends_does how Turns other full ends = (ap Some ends.0, wrote_did ends.1)
+    ends_does how NumbersSpent other full ends = absurd (other ends.0)
+    ends_does how Full other full ends = absurd (full ends.0)
+    ends_does how DiskFailed other full ends = absurd ends
+    ends_does how LinkFailed other full ends = absurd ends
+    ends_does how WriteFailed other full short = short_fails [] short
+    ends_does how NoMemory other full none = none_wrote [] none
 
 -- the same of an ending that is exact
 pub ends_exact : (out : SinkTold) (text : List ℕ) (how : Ending) → IsExact how → WroteText out text
@@ -258,7 +259,7 @@ never_turns true is = absurd (cc)
 never_turns false is = absurd (cc)
 
 module _ {S C : Type 0} (law : NotesAreLines) (at : StepAt S C) (stops : List (List Happening)) (asked : Asked)
-    (fills : Bool) (went : Went S Happening) (out : StepOut) where
+    (fills : Bool) (reply : List ℕ) (went : Went S Happening) (out : StepOut) where
   -- it goes on, and its lines are these
   gone_text : (next : S) (gone : HasGone went next out)
       → text_of (entries_at at.side at.moment (gone.step.notes ++ wrote gone.step.written))
@@ -277,22 +278,23 @@ module _ {S C : Type 0} (law : NotesAreLines) (at : StepAt S C) (stops : List (L
       → ((entries : List Entry) → text_of entries
       ≡ flat_map (note_line at.moment at.side) out.notes ++ flat_map (note_line at.moment at.side) (printed
       (wrote out.line.items))
-      → Does (with_end a next room a.stop) c None (Writes entries ∷ sends out.line.items) result)
-      → Runs a c (made at stops asked fills went) result
+      → Does (with_end a next room a.stop) c None (Writes entries (text_of entries ++ reply) ∷ sends out.line.items) result)
+      → Runs a c (made at stops asked fills reply went) result
   gone_runs a c next room gone used result does =
       let entries : List Entry = entries_at at.side at.moment (gone.step.notes ++ wrote gone.step.written) in
       let first : Act S C = stands at stops asked (Some gone.step.next) in
-      subst (λ (went : Went S Happening). Runs a c (made at stops asked fills went) result) (sym gone.is)
-      (subst (λ (w : List ℕ). Does a c None (first ∷ Writes entries ∷ sends w) result)
+      subst (λ (went : Went S Happening). Runs a c (made at stops asked fills reply went) result) (sym gone.is)
+      (subst (λ (w : List ℕ). Does a c None (first ∷ Writes entries (text_of entries ++ reply) ∷ sends w) result)
       gone.written
       (does_behind c (first ∷ [])
       (did_step a next room at (map (entries_at at.side at.moment) stops) asked (Some gone.step.next)
       (sym gone.next_is) used) None
-      (Writes entries ∷ sends out.line.items) result (does entries (gone_text next gone))))
+      (Writes entries (text_of entries ++ reply) ∷ sends out.line.items) result
+      (does entries (gone_text next gone))))
 
-  pub gone_end : (next : S) → HasGone went next out → next ≡ (made at stops asked fills went).end
+  pub gone_end : (next : S) → HasGone went next out → next ≡ (made at stops asked fills reply went).end
   gone_end next gone =
-      sym gone.next_is ∙ ap (λ (went : Went S Happening). (made at stops asked fills went).end) (sym gone.is)
+      sym gone.next_is ∙ ap (λ (went : Went S Happening). (made at stops asked fills reply went).end) (sym gone.is)
 
   -- the end is known behind it
   pub gone_comes :
@@ -302,8 +304,9 @@ module _ {S C : Type 0} (law : NotesAreLines) (at : StepAt S C) (stops : List (L
       → ((entries : List Entry) → text_of entries
       ≡ flat_map (note_line at.moment at.side) out.notes
       ++ flat_map (note_line at.moment at.side) (printed (wrote out.line.items))
-      → Does (with_end a next room a.stop) (c None) None (Writes entries ∷ sends out.line.items) result)
-      → Comes known left end a c (made at stops asked fills went) result
+      → Does (with_end a next room a.stop) (c None) None
+      (Writes entries (text_of entries ++ reply) ∷ sends out.line.items) result)
+      → Comes known left end a c (made at stops asked fills reply went) result
   gone_comes known left end a c next room is gone used so None does =
       (gone_runs a (c None) next room gone used None does, so, is ∙ gone_end next gone)
   gone_comes known left end a c next room is gone used so (Some how) does =
@@ -312,7 +315,7 @@ module _ {S C : Type 0} (law : NotesAreLines) (at : StepAt S C) (stops : List (L
   -- memory runs out in it
   pub lacks_memory : (a : Scene S C) → at.state ≡ a.end → (end : S) (room : Asked)
       → Runs a (with_end a end room (Some (record { at = at; out = out; why = stop.NoMemory })))
-      (made at stops asked fills went) (Some NoMemory)
+      (made at stops asked fills reply went) (Some NoMemory)
   lacks_memory a here end room = go went
     where
       all : List (List Entry)
@@ -341,11 +344,11 @@ module _ {S C : Type 0} (law : NotesAreLines) (at : StepAt S C) (stops : List (L
 
       go : (went : Went S Happening)
           → Runs a (with_end a end room (Some (record { at = at; out = out; why = stop.NoMemory })))
-          (made at stops asked fills went) (Some NoMemory)
+          (made at stops asked fills reply went) (Some NoMemory)
       go (Goes step) =
           lacks (Some step.next)
-          (Writes (entries_at at.side at.moment (step.notes ++ wrote step.written)) ∷ sends step.written)
-      go (Spent step) = lacks None (Writes (entries_at at.side at.moment step.notes) ∷ [])
+          (notes_at at.side at.moment (step.notes ++ wrote step.written) reply ∷ sends step.written)
+      go (Spent step) = lacks None (notes_at at.side at.moment step.notes [] ∷ [])
 
   -- it has stopped, and this is what is seen behind it
   module _ (a : Scene S C) (here : at.state ≡ a.end) (end : S) (room : Asked) (r' : Option (List ℕ)) (k' : SinkHealth)
@@ -355,11 +358,11 @@ module _ {S C : Type 0} (law : NotesAreLines) (at : StepAt S C) (stops : List (L
 
       -- it ends early: its lines are the last
       spent_does :
-          (store : Bool) (entries : List Entry) (text : List ℕ) → text_of entries ≡ text → (result : Ending)
+          (store : Bool) (entries : List Entry) (text : List ℕ) (result : Ending)
           → EndsWith (written a (with_out a r' k')) text (spent_for store) result
           → Does a (stopped (stop_for store)) (Some (spent_for store))
-          (stands at stops asked None ∷ Writes entries ∷ []) (Some result)
-      spent_does store entries text is result ends = go result ends
+          (stands at stops asked None ∷ Writes entries text ∷ []) (Some result)
+      spent_does store entries text result ends = go result ends
         where
           all : List (List Entry)
           all = map (entries_at at.side at.moment) stops
@@ -392,33 +395,34 @@ module _ {S C : Type 0} (law : NotesAreLines) (at : StepAt S C) (stops : List (L
           }
 
           done : WroteText (written a (with_out a r' k')) text
-              → Made a (stopped (stop_for store)) (Stands at all asked None ∷ Writes entries ∷ [])
+              → Made a (stopped (stop_for store)) (Stands at all asked None ∷ Writes entries text ∷ [])
           done wrote =
-              made_both (stopped (stop_for store)) (Stands at all asked None ∷ []) [] (Writes entries ∷ []) begun
-              (wrote_made (with_end a end room stop_at) r' k' entries text is wrote)
+              made_both (stopped (stop_for store)) (Stands at all asked None ∷ []) [] (Writes entries text ∷ []) begun
+              (wrote_made (with_end a end room stop_at) r' k' entries text wrote)
 
           go : (result : Ending) → EndsWith (written a (with_out a r' k')) text (spent_for store) result
               → Does a (stopped (stop_for store)) (Some (spent_for store))
-              (Stands at all asked None ∷ Writes entries ∷ []) (Some result)
+              (Stands at all asked None ∷ Writes entries text ∷ []) (Some result)
           go NumbersSpent ends =
-              (ap Some ends.0, done ends.1, (spent (Writes entries ∷ []), by_numbers store ends.0))
-          go Full ends = (ap Some ends.0, done ends.1, (spent (Writes entries ∷ []), by_store store ends.0))
+              (ap Some ends.0, done ends.1, (spent (Writes entries text ∷ []), by_numbers store ends.0))
+          go Full ends = (ap Some ends.0, done ends.1, (spent (Writes entries text ∷ []), by_store store ends.0))
           go WriteFailed short = record {
             done = Stands at all asked None ∷ [];
             entries = entries;
+            text = text;
             later = [];
             whole = refl;
             linked = linked;
             carried = carried_none a.link;
             count = short.count;
-            short = subst (λ (t : List ℕ). short.count < length t) (sym is) short.short;
-            received = short.received ∙ ap (λ (t : List ℕ). with_bytes a.received (take short.count t)) (sym is);
-            fault = subst (λ (t : List ℕ). WriteFault a.out k' (length t)) (sym is) short.fault;
+            short = short.short;
+            received = short.received;
+            fault = short.fault;
             end = inr (spent []);
           }
           go NoMemory none = record {
             done = Stands at all asked None ∷ [];
-            later = Writes entries ∷ [];
+            later = Writes entries text ∷ [];
             whole = refl;
             made = record { linked = linked; carried = carried_none a.link; wrote = none };
             end = inr (inl (spent []));
@@ -432,27 +436,30 @@ module _ {S C : Type 0} (law : NotesAreLines) (at : StepAt S C) (stops : List (L
       pub spent_runs : (store : Bool) → fills ≡ store → (spent : HasSpent went out) (result : Ending)
           → EndsWith (written a (with_out a r' k')) (flat_map
           (note_line at.moment at.side) out.notes) (spent_for store) result
-          → Runs a (stopped (stop_for store)) (made at stops asked fills went) (Some result)
+          → Runs a (stopped (stop_for store)) (made at stops asked fills reply went) (Some result)
       spent_runs store is spent result ends =
-          subst (λ (f : Bool). Runs a (stopped (stop_for store)) (made at stops asked f went) (Some result)) (sym is)
+          subst (λ (f : Bool). Runs a (stopped (stop_for store)) (made at stops asked f reply went) (Some result)) (sym is)
           (subst
-          (λ (went : Went S Happening). Runs a (stopped (stop_for store)) (made at stops asked store went)
+          (λ (went : Went S Happening). Runs a (stopped (stop_for store)) (made at stops asked store reply went)
           (Some result))
           (sym spent.is)
           (spent_does store (entries_at at.side at.moment spent.step.notes)
-          (flat_map (note_line at.moment at.side) out.notes)
-          (noted_text law at.side at.moment spent.step.notes
-          ∙ ap (flat_map (note_line at.moment at.side)) (sym spent.notes))
-          result ends))
+          (text_of (entries_at at.side at.moment spent.step.notes) ++ []) result
+          (subst (λ (t : List ℕ). EndsWith (written a (with_out a r' k')) t (spent_for store) result)
+          (sym (append-nil (text_of (entries_at at.side at.moment spent.step.notes))
+          ∙ noted_text law at.side at.moment spent.step.notes
+          ∙ ap (flat_map (note_line at.moment at.side)) (sym spent.notes)))
+          ends)))
 
       -- the disk stops it, whatever it was to write then
       disk_stops :
-          (halt : HasStopped stops went out) (left : Option S) (noted : List Happening) (more : List (Act S C))
+          (halt : HasStopped stops went out) (left : Option S) (noted : List Happening) (text : List ℕ)
+          (more : List (Act S C))
           → IsFront halt.front noted → IsShort a.room asked
           → PutsAsCan (written a (with_out a r' k')) (flat_map (note_line at.moment at.side) out.notes)
           → DiskFails a (stopped stop.DiskFailed)
-          (stands at stops asked left ∷ Writes (entries_at at.side at.moment noted) ∷ more)
-      disk_stops halt left noted more first short puts = record {
+          (stands at stops asked left ∷ Writes (entries_at at.side at.moment noted) text ∷ more)
+      disk_stops halt left noted text more first short puts = record {
         done = [];
         at = at;
         stops = map (entries_at at.side at.moment) stops;
@@ -460,9 +467,10 @@ module _ {S C : Type 0} (law : NotesAreLines) (at : StepAt S C) (stops : List (L
         end = left;
         newer = entries_at at.side at.moment first.rest;
         entries = entries_at at.side at.moment halt.front;
+        text = text;
         later = more;
         whole =
-            ap (λ (es : List Entry). stands at stops asked left ∷ Writes es ∷ more)
+            ap (λ (es : List Entry). stands at stops asked left ∷ Writes es text ∷ more)
             (ap (entries_at at.side at.moment) first.whole ∙ entries_both at.side at.moment halt.front first.rest);
         before = here;
         front = halt.front;
@@ -488,7 +496,7 @@ module _ {S C : Type 0} (law : NotesAreLines) (at : StepAt S C) (stops : List (L
       pub stopped_runs :
           HasStopped stops went out → IsShort a.room asked
           → PutsAsCan (written a (with_out a r' k')) (flat_map (note_line at.moment at.side) out.notes)
-          → Runs a (stopped stop.DiskFailed) (made at stops asked fills went) (Some DiskFailed)
+          → Runs a (stopped stop.DiskFailed) (made at stops asked fills reply went) (Some DiskFailed)
       stopped_runs halt short puts = go went halt.first
         where
           front_more : (notes last : List Happening) → IsFront halt.front notes → IsFront halt.front (notes ++ last)
@@ -499,11 +507,14 @@ module _ {S C : Type 0} (law : NotesAreLines) (at : StepAt S C) (stops : List (L
           }
 
           go : (went : Went S Happening) → IsFront halt.front (step_in went).notes
-              → Runs a (stopped stop.DiskFailed) (made at stops asked fills went) (Some DiskFailed)
+              → Runs a (stopped stop.DiskFailed) (made at stops asked fills reply went) (Some DiskFailed)
           go (Goes step) first =
-              disk_stops halt (Some step.next) (step.notes ++ wrote step.written) (sends step.written)
+              disk_stops halt (Some step.next) (step.notes ++ wrote step.written)
+              (text_of (entries_at at.side at.moment (step.notes ++ wrote step.written)) ++ reply) (sends step.written)
               (front_more step.notes (wrote step.written) first) short puts
-          go (Spent step) first = disk_stops halt None step.notes [] first short puts
+          go (Spent step) first =
+              disk_stops halt None step.notes (text_of (entries_at at.side at.moment step.notes) ++ []) [] first short
+              puts
 
 -- ---- a start
 

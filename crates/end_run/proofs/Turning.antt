@@ -1,5 +1,5 @@
 -- What a poll brings, and what an end is told.
-use Rattle.std.proofs.Common.{◌≡◌, ◌≢◌, ℕ, ◌+◌, ◌<◌, ◌≤◌, arith, length, get_or, drop-cons, add-one, List, [], ◌∷◌, drop, Option, Some, None, inr, refl, sym, ap, subst, ◌∙◌}
+use Rattle.std.proofs.Common.{◌≡◌, ◌≢◌, ℕ, Bool, ◌+◌, ◌<◌, ◌≤◌, arith, length, get_or, drop-cons, add-one, List, [], ◌∷◌, ◌++◌, append-nil, drop, Option, Some, None, inr, refl, sym, ap, subst, ◌∙◌}
 use Rattle.std.proofs.lemmas.List.{drop-drop, length-drop}
 use Rattle.std.proofs.lemmas.List.Sums.{prefix_len-le-length}
 use Rattle.gl_base.specs.Events.{moment_after}
@@ -17,43 +17,45 @@ use Rattle.trace_log.specs.Log.Happening.{Closed}
 use Rattle.trace_log.specs.Text.{text_of}
 use Rattle.end_run.specs.declared.ending.Ending.{Ending}
 use Rattle.end_run.specs.declared.ending.Ending.TheVariants as ending
-use Rattle.end_run.specs.Acts.{Act}
+use Rattle.end_run.specs.Acts.{Act, MayAnswer}
 use Rattle.end_run.specs.Acts.Act.{Polls}
 use Rattle.end_run.specs.Calls.{EndsWith, HasTurned, IsPlainInput, Left}
 use Rattle.end_run.specs.Commands.{Commands, Telling, MayTell, command_of, wait_until}
-use Rattle.end_run.specs.Commands.Telling.{IsOther, Stops, Tells}
+use Rattle.end_run.specs.Commands.Telling.{IsOther, Says, Stops, Tells}
 use Rattle.end_run.specs.Outcome.{Comes, Did, IfOn, Lists, Runs}
 use Rattle.end_run.specs.Pieces.{Piece, behind}
 use Rattle.end_run.specs.Run.{closed, upon}
 use Rattle.end_run.specs.Scenes.{Scene, StopAt, written}
 use Rattle.end_run.specs.Script.{ScriptLine, due_count, is_due_line, later_lines}
-use Rattle.end_run.specs.Steps.{entries_at, stepped, tells}
+use Rattle.end_run.specs.Steps.{entries_at, replied, stepped, tells}
 use Rattle.end_run.proofs.Coming.{comes_after}
 use Rattle.end_run.proofs.Joining.{did_none, room_none}
 use Rattle.end_run.proofs.Stepping.{ends_does, with_link, with_out}
 
 -- ---- a poll that was answered
 
-abbrev polling : {S C : Type 0} → ℕ → LinkIn → List (Act S C)
-polling until answer = Polls until answer ∷ []
+abbrev polling : {S C : Type 0} → ℕ → LinkIn → Bool → List (Act S C)
+polling until answer early = Polls until answer early ∷ []
 
-polled_listed : (S C : Type 0) (l l' : Option LinkContents) (until : ℕ) (answer : LinkIn) → answer ≢ link.Failed
-    → IsToldAnswer l answer → l' ≡ told_after_poll until answer l → Lists l (polling {S = S} {C = C} until answer) l'
-polled_listed S C None l' until (link.Char byte now) other next is = is
-polled_listed S C None l' until (link.Quiet now) other next is = is
-polled_listed S C None l' until link.Closed other next is = is
-polled_listed S C (Some k) l' until (link.Char byte now) other next is =
+polled_listed : (S C : Type 0) (l l' : Option LinkContents) (until : ℕ) (answer : LinkIn) (early : Bool)
+    → answer ≢ link.Failed → IsToldAnswer l answer → l' ≡ told_after_poll until answer l
+    → Lists l (polling {S = S} {C = C} until answer early) l'
+polled_listed S C None l' until (link.Char byte now) early other next is = is
+polled_listed S C None l' until (link.Quiet now) early other next is = is
+polled_listed S C None l' until link.Closed early other next is = is
+polled_listed S C (Some k) l' until (link.Char byte now) early other next is =
     subst (λ (after : Option LinkContents). Lists (Some k) (polling {S = S} {C = C} until
-    (link.Char byte now)) after) (sym is)
+    (link.Char byte now) early) after) (sym is)
     (record { entries = refl; left = next })
-polled_listed S C (Some k) l' until (link.Quiet now) other next is =
-    subst (λ (after : Option LinkContents). Lists (Some k) (polling {S = S} {C = C} until (link.Quiet now)) after)
+polled_listed S C (Some k) l' until (link.Quiet now) early other next is =
+    subst (λ (after : Option LinkContents). Lists (Some k) (polling {S = S} {C = C} until (link.Quiet now) early) after)
     (sym is)
     (record { entries = refl; left = next })
-polled_listed S C (Some k) l' until link.Closed other next is =
-    subst (λ (after : Option LinkContents). Lists (Some k) (polling {S = S} {C = C} until link.Closed) after) (sym is)
+polled_listed S C (Some k) l' until link.Closed early other next is =
+    subst (λ (after : Option LinkContents). Lists (Some k) (polling {S = S} {C = C} until link.Closed early) after)
+    (sym is)
     (record { entries = refl; left = next ∙ sym (ap (λ (answers : List LinkIn). drop 1 answers) next) })
-polled_listed S C l l' until link.Failed other next is = absurd (other refl)
+polled_listed S C l l' until link.Failed early other next is = absurd (other refl)
 
 polled_carried : (h h' : LinkHealth) (answer : LinkIn) → answer ≢ link.Failed → HasPollCause h h' answer
     → IsCarriedOn h h' 1
@@ -63,14 +65,14 @@ polled_carried h h' link.Closed other cause = cause
 polled_carried h h' link.Failed other cause = absurd (other refl)
 
 polled_did : {S C : Type 0} (a : Scene S C) (l' : Option LinkContents) (m' : ℕ) (h' : LinkHealth) (until : ℕ)
-    (answer : LinkIn)
+    (answer : LinkIn) (early : Bool)
     → answer ≢ link.Failed → IsToldAnswer a.contents answer → l' ≡ told_after_poll until answer a.contents
-    → IsTimely until a.moment answer → m' ≡ moment_after a.moment answer → HasPollCause a.link h' answer
-    → Did a (with_link a l' m' h') (Polls until answer ∷ [])
-polled_did {S} {C} a l' m' h' until answer other next told timely clock cause = record {
+    → MayAnswer early until a.moment answer → m' ≡ moment_after a.moment answer → HasPollCause a.link h' answer
+    → Did a (with_link a l' m' h') (Polls until answer early ∷ [])
+polled_did {S} {C} a l' m' h' until answer early other next told timely clock cause = record {
   made = record {
     linked = record {
-      listed = polled_listed S C a.contents l' until answer other next told;
+      listed = polled_listed S C a.contents l' until answer early other next told;
       clock = clock;
       timely = (timely, tt);
     };
@@ -96,7 +98,8 @@ module _
 
     pub turned_by :
         (answer : LinkIn) (result : Option Ending) → answer ≢ link.Failed → IsToldAnswer a.contents answer
-        → l' ≡ told_after_poll until answer a.contents → IsTimely until a.moment answer
+        → l' ≡ told_after_poll until answer a.contents
+        → MayAnswer (commands.early (moment_after before.moment answer) before.coming) until a.moment answer
         → m' ≡ moment_after a.moment answer → HasPollCause a.link h' answer
         → Comes known left end (with_link a l' m' h') c
         (upon machine due commands side coming before.moment answer before.end) result
@@ -111,9 +114,13 @@ module _
         runs =
             subst (λ (act : Act S C). Comes known left end a c (behind (act ∷ [])
             (upon machine due commands side before.coming before.moment answer before.end)) result)
-            (ap (λ (until : ℕ). Polls until answer) waits)
-            (comes_after known left end c (Polls until answer ∷ [])
-            (polled_did a l' m' h' until answer other next told timely clock cause)
+            (ap
+            (λ (until : ℕ).
+            Polls until answer (commands.early (moment_after before.moment answer) before.coming)) waits)
+            (comes_after known left end c
+            (Polls until answer (commands.early (moment_after before.moment answer) before.coming) ∷ [])
+            (polled_did a l' m' h' until answer (commands.early (moment_after before.moment answer) before.coming) other
+            next told timely clock cause)
             (upon machine due commands side before.coming before.moment answer before.end) result
             (subst (λ (coming : Q). Comes known left end (with_link a l' m' h') c
             (upon machine due commands side coming before.moment answer before.end) result)
@@ -130,8 +137,10 @@ pub closed_runs :
     → EndsWith (written a (with_out a r' k')) (text_of (entries_at side now (Closed ∷ []))) ending.Closed result
     → Runs a (with_out a r' k') (closed side now s) (Some result)
 closed_runs a r' k' side now s result ends =
-    ends_does a r' k' (entries_at side now (Closed ∷ [])) (text_of (entries_at side now (Closed ∷ []))) refl
-    ending.Closed result (λ is. cc) (λ is. cc) ends
+    ends_does a r' k' (entries_at side now (Closed ∷ [])) (text_of (entries_at side now (Closed ∷ [])) ++ [])
+    ending.Closed result (λ is. cc) (λ is. cc)
+    (subst (λ (t : List ℕ). EndsWith (written a (with_out a r' k')) t ending.Closed result)
+    (sym (append-nil (text_of (entries_at side now (Closed ∷ []))))) ends)
 
 pub if_on : (result : Option Ending) (P : Type 0) → P → IfOn result P
 if_on None P holds = holds
@@ -167,28 +176,33 @@ module _ {S C : Type 0} (machine : Machine S C) (side : Side) (now : ℕ) (takes
   -- where it is no command, and not for another end, it stops the run
   pub told_stops : (a : Scene S C) (s : S) (telling : Telling C) → MayTell takes telling → command_of telling ≡ None
       → Runs a a (tells machine side now telling s) (Some ending.Stopped)
-  told_stops a s (Tells command) may is = absurd (cc)
+  told_stops a s (Tells command reply) may is = absurd (cc)
+  told_stops a s (Says text) may is = absurd may
   told_stops a s Stops may is = (refl, did_none a)
   told_stops a s IsOther may is = absurd may
 
   -- it is a command
-  pub told_as : (P : Piece S C → Type 0) (s : S) (telling : Telling C) (given : C) → command_of telling ≡ Some given
+  pub told_as : (P : Piece S C → Type 0) (s : S) (telling : Telling C) (given : C) → MayTell takes telling
+      → command_of telling ≡ Some given
       → P (stepped machine side now (Command given) s) → P (tells machine side now telling s)
-  told_as P s (Tells command) given is runs =
-      subst (λ (command : C). P (stepped machine side now (Command command) s)) (sym (same is)) runs
+  told_as P s (Tells command reply) given may is runs =
+      subst (λ (reply : List ℕ). P (replied machine side reply now (Command command) s)) (sym may.1)
+      (subst (λ (command : C). P (stepped machine side now (Command command) s)) (sym (same is)) runs)
     where
       same : {command : C} → Some command ≡ Some given → command ≡ given
       same is = cc
-  told_as P s Stops given is runs = absurd (cc)
-  told_as P s IsOther given is runs = absurd (cc)
+  told_as P s (Says text) given may is runs = absurd (cc)
+  told_as P s Stops given may is runs = absurd (cc)
+  told_as P s IsOther given may is runs = absurd (cc)
 
   -- which the end takes
   pub told_takes : (telling : Telling C) (given : C) → MayTell takes telling → command_of telling ≡ Some given
       → takes given
-  told_takes (Tells command) given may is = subst takes (same is) may
+  told_takes (Tells command reply) given may is = subst takes (same is) may.0
     where
       same : {command : C} → Some command ≡ Some given → command ≡ given
       same is = cc
+  told_takes (Says text) given may is = absurd (cc)
   told_takes Stops given may is = absurd (cc)
   told_takes IsOther given may is = absurd (cc)
 

@@ -105,8 +105,8 @@ pub record LacksMemory {S C : Type 0} (a b : Scene S C) (done later : List (Act 
 abbrev pub IsCutShort : {S C : Type 0} → Act S C → List (Act S C) → Type 0
 IsCutShort (Stands at stops asked end) part = ⊥
 IsCutShort Connects part = part ≡ Connects ∷ []
-IsCutShort (Polls until answer) part = part ≡ []
-IsCutShort (Writes entries) part = ⊥
+IsCutShort (Polls until answer early) part = part ≡ []
+IsCutShort (Writes entries text) part = ⊥
 IsCutShort (Sends characters) part = (n : ℕ) × (n < length characters) × (part ≡ Sends (take n characters) ∷ [])
 
 -- a call of the link failed: all that stands before it was done, and all lines before it were written
@@ -127,14 +127,15 @@ pub record LinkFails {S C : Type 0} (a b : Scene S C) (acts : List (Act S C)) : 
 pub record WriteFails {S C : Type 0} (a b : Scene S C) (acts : List (Act S C)) : Type 0 where
   pub done : List (Act S C)
   pub entries : List Entry
+  pub text : List ℕ
   pub later : List (Act S C)
-  pub whole : acts ≡ done ++ Writes entries ∷ later
+  pub whole : acts ≡ done ++ Writes entries text ∷ later
   pub linked : Linked a b done
   pub carried : IsCarriedOn a.link b.link (length (list_of done))
   pub count : ℕ
-  pub short : count < length (text_of entries)
-  pub received : b.received ≡ with_bytes a.received (lines_of done ++ take count (text_of entries))
-  pub fault : WriteFault a.out b.out (length (lines_of done ++ text_of entries))
+  pub short : count < length text
+  pub received : b.received ≡ with_bytes a.received (lines_of done ++ take count text)
+  pub fault : WriteFault a.out b.out (length (lines_of done ++ text))
   pub end : GoesOn a b done ⊎ IsSpent a b done
 
 -- of a text behind these lines a part from the front was written, since the output failed
@@ -160,8 +161,9 @@ pub record DiskFails {S C : Type 0} (a b : Scene S C) (acts : List (Act S C)) : 
   pub end : Option S
   pub newer : List Entry
   pub entries : List Entry
+  pub text : List ℕ
   pub later : List (Act S C)
-  pub whole : acts ≡ done ++ Stands at stops asked end ∷ Writes (newer ++ entries) ∷ later
+  pub whole : acts ≡ done ++ Stands at stops asked end ∷ Writes (newer ++ entries) text ∷ later
   pub before : IsLeft (end_by (Some a.end) done) at.state
   pub front : List Happening
   pub noted : entries ≡ entries_at at.side at.moment front

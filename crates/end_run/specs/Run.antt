@@ -11,17 +11,17 @@ use Rattle.message_end.specs.Ends.Input.{Char, Time}
 use Rattle.trace_log.specs.Log.{Happening}
 use Rattle.trace_log.specs.Log.Happening.{Closed}
 use Rattle.end_run.specs.declared.ending.Ending.TheVariants as ending
-use Rattle.end_run.specs.Acts.Act.{Polls, Writes}
+use Rattle.end_run.specs.Acts.Act.{Polls}
 use Rattle.end_run.specs.Commands.{Commands, Telling, wait_until}
 use Rattle.end_run.specs.Pieces.{Piece, and_more, behind, stops}
 use Rattle.end_run.specs.Script.{ScriptLine, by_script}
-use Rattle.end_run.specs.Steps.{answered, entries_at, started, stepped}
+use Rattle.end_run.specs.Steps.{answered, notes_at, started, stepped}
 
 -- the peer has closed the connection, at the moment of the last answer that had one
 abbrev pub closed : {S C : Type 0} → Side → ℕ → S → Piece S C
 closed side now s = record {
   end = s;
-  acts = Writes (entries_at side now (Closed ∷ [])) ∷ [];
+  acts = notes_at side now (Closed ∷ []) [] ∷ [];
   ended = Some ending.Closed;
 }
 
@@ -43,7 +43,10 @@ module _ {S C Q : Type 0} (machine : Machine S C) (due : S → Option ℕ) (comm
     -- a poll asks for the moment at which the end acts next, by itself or by what commands it
     abbrev pub turned : Q → ℕ → LinkIn → S → Piece S C
     turned coming before answer s =
-        behind (Polls (wait_until (due s) (commands.asks coming)) answer ∷ []) (upon coming before answer s)
+        behind
+        (Polls (wait_until (due s) (commands.asks coming)) answer (commands.early (moment_after before answer) coming)
+        ∷ [])
+        (upon coming before answer s)
 
     -- so many polls, as long as the run goes on; where no answer is left the peer has closed the connection
     abbrev pub polled : ℕ → Q → ℕ → List LinkIn → S → Piece S C

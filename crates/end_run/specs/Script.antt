@@ -1,5 +1,5 @@
 -- What a script tells an end, and when its lines are due (this profile).
-use Rattle.std.specs.Prelude.{ℕ, Bool, nat_le, List, [], ◌∷◌, All, map, take, drop, Option, Some, None}
+use Rattle.std.specs.Prelude.{ℕ, Bool, false, nat_le, List, [], ◌∷◌, All, map, take, drop, Option, Some, None}
 use Rattle.std.specs.List.{prefix_len}
 use Rattle.line_schedule.specs.declared.script.ScriptStep.{ScriptStep}
 use Rattle.end_run.specs.Commands.{Commands, MayTell, Telling}
@@ -7,7 +7,7 @@ use Rattle.end_run.specs.Commands.{Commands, MayTell, Telling}
 abbrev pub ScriptLine : Type 0
 ScriptLine = ℕ × ScriptStep
 
--- what lines tell, each a command that the end takes, or to stop
+-- what lines tell, each a command that the end takes, without a reply, or to stop
 abbrev pub told_by : {C : Type 0} → (ScriptStep → Telling C) → List ScriptLine → List (Telling C)
 told_by told lines = map (λ line. told line.1) lines
 
@@ -41,5 +41,6 @@ abbrev pub by_script : {C : Type 0} → (ScriptStep → Telling C) → Commands 
 by_script told = record {
   asks = next_moment;
   come = λ now lines. told_by told (due_lines now lines);
+  early = λ now lines. false;
   later = later_lines;
 }

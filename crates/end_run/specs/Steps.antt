@@ -7,12 +7,13 @@ use Rattle.message_end.specs.Ends.{Asked, Input, Machine, wrote}
 use Rattle.message_end.specs.Ends.Input.{Command}
 use Rattle.trace_log.specs.Laws.{log_with}
 use Rattle.trace_log.specs.Log.{Entry, Happening}
+use Rattle.trace_log.specs.Text.{text_of}
 use Rattle.end_run.specs.declared.ending.Ending.{Ending}
 use Rattle.end_run.specs.declared.ending.Ending.TheVariants as ending
 use Rattle.end_run.specs.Acts.{Act, StepAt}
 use Rattle.end_run.specs.Acts.Act.{Connects, Sends, Stands, Writes}
 use Rattle.end_run.specs.Commands.{Telling}
-use Rattle.end_run.specs.Commands.Telling.{IsOther, Stops, Tells}
+use Rattle.end_run.specs.Commands.Telling.{IsOther, Says, Stops, Tells}
 use Rattle.end_run.specs.Pieces.{Piece, and_more, still, stops}
 
 -- what was noted at a moment, as entries
@@ -33,20 +34,25 @@ abbrev pub spent_for : (fills : Bool) → Ending
 spent_for true = ending.Full
 spent_for false = ending.NumbersSpent
 
--- a step is made, its lines are written, and then its characters are sent; where it ends early nothing is sent, and the
--- run ends
+-- the lines of what was noted at a moment are written, and this behind them
+abbrev pub notes_at : {S C : Type 0} → Side → ℕ → List Happening → List ℕ → Act S C
+notes_at side now noted reply = Writes (entries_at side now noted) (text_of (entries_at side now noted) ++ reply)
+
+-- a step is made, its lines are written with the reply behind them, and then its characters are sent; where it ends
+-- early nothing is replied or sent, and the run ends
 abbrev pub made :
-    {S C : Type 0} → StepAt S C → List (List Happening) → Asked → (fills : Bool) → Went S Happening → Piece S C
-made at stops asked fills (Goes step) = record {
+    {S C : Type 0} → StepAt S C → List (List Happening) → Asked → (fills : Bool) → (reply : List ℕ)
+    → Went S Happening → Piece S C
+made at stops asked fills reply (Goes step) = record {
   end = step.next;
   acts =
       stands at stops asked (Some step.next)
-      ∷ Writes (entries_at at.side at.moment (step.notes ++ wrote step.written)) ∷ sends step.written;
+      ∷ notes_at at.side at.moment (step.notes ++ wrote step.written) reply ∷ sends step.written;
   ended = None;
 }
-made at stops asked fills (Spent step) = record {
+made at stops asked fills reply (Spent step) = record {
   end = step.next;
-  acts = stands at stops asked None ∷ Writes (entries_at at.side at.moment step.notes) ∷ [];
+  acts = stands at stops asked None ∷ notes_at at.side at.moment step.notes [] ∷ [];
   ended = Some (spent_for fills);
 }
 
@@ -54,22 +60,30 @@ made at stops asked fills (Spent step) = record {
 abbrev pub started : {S C : Type 0} → Side → Step S Happening → Piece S C
 started side start = record {
   end = start.next;
-  acts = Writes (entries_at side 0 start.notes) ∷ Connects ∷ [];
+  acts = notes_at side 0 start.notes [] ∷ Connects ∷ [];
   ended = None;
 }
+
+-- a text is written, and nothing else is done
+abbrev pub said : {S C : Type 0} → List ℕ → S → Piece S C
+said text s = record { end = s; acts = Writes [] text ∷ []; ended = None }
 
 abbrev pub step_at : {S C : Type 0} → Side → ℕ → Input C → S → StepAt S C
 step_at side now input s = record { side = side; moment = now; state = s; input = input }
 
 module _ {S C : Type 0} (machine : Machine S C) (side : Side) where
-  abbrev pub stepped : ℕ → Input C → S → Piece S C
-  stepped now input s =
+  abbrev pub replied : List ℕ → ℕ → Input C → S → Piece S C
+  replied reply now input s =
       made (step_at side now input s) (machine.stops s input now) (machine.asks s input now)
-      (machine.fills s input now) (machine.act s input now)
+      (machine.fills s input now) reply (machine.act s input now)
 
-  -- a command is a step with it; another telling stops the end, or does nothing
+  abbrev pub stepped : ℕ → Input C → S → Piece S C
+  stepped now input s = replied [] now input s
+
+  -- a command is a step with it; another telling writes its text, or stops the end, or does nothing
   abbrev pub tells : ℕ → Telling C → S → Piece S C
-  tells now (Tells command) s = stepped now (Command command) s
+  tells now (Tells command reply) s = replied reply now (Command command) s
+  tells now (Says text) s = said text s
   tells now Stops s = stops ending.Stopped s
   tells now IsOther s = still s
 

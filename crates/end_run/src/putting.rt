@@ -11,19 +11,22 @@ use message_flow::{Note, StepOut};
 use std::alloc::Global;
 use trace_log::put_note;
 
-/// The lines of a step's notes, and behind them that of the characters that it has written.
+/// The lines of a step's notes, behind them that of the characters that it has written, and behind all a reply.
 pub(crate) fn lines_of_step(
     alloc: Global,
     now: u64,
     side: Side,
     out: &StepOut,
+    reply: &[u8],
 ) -> Result<Row<u8>, NoMemory>
     ensures { IfOk result (λ lines. lines
-        ≡ flat_map (note_line now side) out.now.notes
-        ++ flat_map (note_line now side) (printed (wrote out.now.line.items))) }
+        ≡ (flat_map (note_line now side) out.now.notes
+        ++ flat_map (note_line now side) (printed (wrote out.now.line.items)))
+        ++ reply.now) }
 {
     let mut lines = lines_of_notes(alloc, now, side, out.notes.as_slice())?;
     put_wrote(alloc, now, side, out.line.as_slice(), &mut lines)?;
+    lines.extend(reply)?;
     Ok(lines)
 }
 

@@ -13,7 +13,7 @@ ghost use Rattle.end_run.specs.Calls.{EndsWith, IsExact, IsPlainInput, PutsAsCan
 ghost use Rattle.end_run.specs.Counts.{Counts, Device, counted, counted_by};
 ghost use Rattle.end_run.specs.Outcome.{Comes, Does};
 ghost use Rattle.end_run.specs.Scenes.{StopAt, beside, scene};
-ghost use Rattle.end_run.specs.Steps.{sends, stepped};
+ghost use Rattle.end_run.specs.Steps.{replied, sends, stepped};
 
 use crate::ending::Ending;
 use crate::linked_end::LinkedEnd;
@@ -50,7 +50,7 @@ pub(crate) fn step_plain<E: LinkedEnd, L: Link, W: Sink>(
     ensures connected { L.connected link.new ≡ L.connected link.old }
 {
     let input = plain_input(byte, &[]);
-    step_end(alloc, side, now, input, end, link, out)
+    step_end(alloc, side, now, input, &[], end, link, out)
 }
 
 // A character or time as the input of an end. The commands, of which none is looked at, tell how long an input lives.
@@ -64,12 +64,13 @@ fn plain_input<C>(byte: Option<u8>, _commands: &[C]) -> NodeInput<'_, C>
     }
 }
 
-/// An end makes a step. Tells how the run ends with it, where it does.
+/// An end makes a step, and this is replied behind its lines. Tells how the run ends with it, where it does.
 pub(crate) fn step_end<E: LinkedEnd, L: Link, W: Sink>(
     alloc: Global,
     side: Side,
     now: u64,
     input: NodeInput<'_, E::Command>,
+    reply: &[u8],
     end: &mut E,
     link: &mut L,
     out: &mut W,
@@ -80,7 +81,7 @@ pub(crate) fn step_end<E: LinkedEnd, L: Link, W: Sink>(
     ensures runs { E.known end.old → Comes E.known E.left end.new
         (scene L.Link W.Sink link.old out.old (E.means end.old) (E.room end.old) None)
         (scene L.Link W.Sink link.new out.new (E.means end.new) (E.room end.new))
-        (stepped E.machine side now (input_of input.entry) (E.means end.old))
+        (replied E.machine side reply.now now (input_of input.entry) (E.means end.old))
         result }
     ensures counts { Counts
         (counted L.Link W.Sink link.old out.old (E.device end.old))
@@ -114,15 +115,16 @@ pub(crate) fn step_end<E: LinkedEnd, L: Link, W: Sink>(
         }
         Err(Stop::NoMemory) => return Some(Ending::NoMemory),
     }
-    hand_on::<E, L, W>(alloc, now, side, &step, link, out)
+    hand_on::<E, L, W>(alloc, now, side, &step, reply, link, out)
 }
 
-// Writes the lines of a step, and sends its characters. The end is past that step.
+// Writes the lines of a step and a reply, and sends its characters. The end is past that step.
 fn hand_on<E: LinkedEnd, L: Link, W: Sink>(
     alloc: Global,
     now: u64,
     side: Side,
     step: &StepOut,
+    reply: &[u8],
     link: &mut L,
     out: &mut W,
 ) -> Option<Ending>
@@ -134,7 +136,7 @@ fn hand_on<E: LinkedEnd, L: Link, W: Sink>(
         (scene L.Link W.Sink link.old out.old s room stop)
         (scene L.Link W.Sink link.new out.new s room stop)
         None
-        (Writes entries ∷ sends step.now.line.items)
+        (Writes entries (text_of entries ++ reply.now) ∷ sends step.now.line.items)
         result }
     ensures counts { (disk : Device E.Fixed) → Counts
         (counted L.Link W.Sink link.old out.old disk)
@@ -142,7 +144,7 @@ fn hand_on<E: LinkedEnd, L: Link, W: Sink>(
         result }
     ensures connected { L.connected link.new ≡ L.connected link.old }
 {
-    let Ok(lines) = lines_of_step(alloc, now, side, step) else {
+    let Ok(lines) = lines_of_step(alloc, now, side, step, reply) else {
         return Some(Ending::NoMemory);
     };
     let SinkAnswer::Done = copy_out(out, lines.as_slice()) else {

@@ -142,6 +142,7 @@ fn tell<E: LinkedEnd, L: Link, W: Sink>(
                 side,
                 now,
                 NodeInput::Command(command),
+                &[],
                 end,
                 link,
                 out,

@@ -16,10 +16,10 @@ use Rattle.trace_log.specs.Log.{Entry, Happening}
 use Rattle.end_pair.specs.Noted.{noted_by}
 use Rattle.end_run.specs.Acts.{log_of}
 use Rattle.end_run.specs.Commands.{Commands, Telling}
-use Rattle.end_run.specs.Commands.Telling.{IsOther, Stops, Tells}
+use Rattle.end_run.specs.Commands.Telling.{IsOther, Says, Stops, Tells}
 use Rattle.end_run.specs.Pieces.{Piece, and_more, and_on, stops}
 use Rattle.end_run.specs.Run.{begun, closed, commanded_run, polled, turned, upon}
-use Rattle.end_run.specs.Steps.{all_told, answered, entries_at, made, started, step_at, stepped, tells}
+use Rattle.end_run.specs.Steps.{all_told, answered, entries_at, made, replied, started, step_at, stepped, tells}
 use Rattle.end_run.specs.declared.ending.Ending.{Ending}
 use Rattle.end_run.specs.declared.ending.Ending.TheVariants as ending
 use Rattle.link_courses.specs.Courses.{AreNotesOf, ComesTo, IsCourse, RunsAreCourses, met_by, with_closing}
@@ -89,11 +89,11 @@ module _ {S C : Type 0} (machine : Machine S C) (start : Step S Happening) (side
       (now : ℕ) (input : Input C) (next : S) (notes : List Happening) (log : List Entry) (met : List (Meeting C))
       → AreNotesOf side log
       → course_of start machine (Acts input now ∷ met) ≡ Reached next (noted_behind notes (noted_by side log))
-      → (s : S) (stops : List (List Happening)) (asked : Asked) (fills : Bool) (written : List ℕ)
+      → (s : S) (stops : List (List Happening)) (asked : Asked) (fills : Bool) (reply written : List ℕ)
       → Behind log met
-      (made (step_at side now input s) stops asked fills
+      (made (step_at side now input s) stops asked fills reply
       (Goes (record { next = next; notes = notes; written = written })))
-  goes-so now input next notes log met own is s stops asked fills [] =
+  goes-so now input next notes log met own is s stops asked fills reply [] =
       subst (λ (l : List Entry). IsSo None next l (Acts input now ∷ met))
       (sym (one-log (entries_at side now (notes ++ [])) log))
       (on-way next (entries_at side now (notes ++ []) ++ log) (Acts input now ∷ met)
@@ -101,7 +101,7 @@ module _ {S C : Type 0} (machine : Machine S C) (start : Step S Happening) (side
       (at-noted now side (notes ++ []) log
       ∙ ap (λ (ns : List Happening). noted_behind ns (noted_by side log)) (append-nil notes))
       is)
-  goes-so now input next notes log met own is s stops asked fills (byte ∷ bytes) =
+  goes-so now input next notes log met own is s stops asked fills reply (byte ∷ bytes) =
       let written = Happening.Wrote (byte ∷ bytes) ∷ [] in
       subst (λ (l : List Entry). IsSo None next l (WritesDown (byte ∷ bytes) ∷ Acts input now ∷ met))
       (sym (one-log (entries_at side now (notes ++ written)) log))
@@ -117,9 +117,9 @@ module _ {S C : Type 0} (machine : Machine S C) (start : Step S Happening) (side
       (now : ℕ) (input : Input C) (step : Step S Happening) (log : List Entry) (met : List (Meeting C))
       → AreNotesOf side log
       → course_of start machine (Acts input now ∷ met) ≡ Stopped (noted_behind step.notes (noted_by side log))
-      → (s : S) (stops : List (List Happening)) (asked : Asked) (fills : Bool)
-      → Behind log met (made (step_at side now input s) stops asked fills (Spent step))
-  spent-so now input step log met own is s stops asked fills = go fills
+      → (s : S) (stops : List (List Happening)) (asked : Asked) (fills : Bool) (reply : List ℕ)
+      → Behind log met (made (step_at side now input s) stops asked fills reply (Spent step))
+  spent-so now input step log met own is s stops asked fills reply = go fills
     where
       notes : notes_of (course_of start machine (Acts input now ∷ met))
           ≡ noted_behind step.notes (noted_by side log)
@@ -139,16 +139,16 @@ module _ {S C : Type 0} (machine : Machine S C) (start : Step S Happening) (side
           subst (λ (l : List Entry). IsSo (Some ended) step.next l (Acts input now ∷ met))
           (sym (one-log (entries_at side now step.notes) log)) is_so
 
-      go : (fills : Bool) → Behind log met (made (step_at side now input s) stops asked fills (Spent step))
+      go : (fills : Bool) → Behind log met (made (step_at side now input s) stops asked fills reply (Spent step))
       go true =
           so ending.Full (record { notes = at-own now side step.notes log own; noted = noted; comes = stopped })
       go false =
           so ending.NumbersSpent (record { notes = at-own now side step.notes log own; noted = noted; comes = stopped })
 
-  step-so :
-      (now : ℕ) (input : Input C) (s : S) (log : List Entry) (met : List (Meeting C)) → IsSo None s log met
-      → Behind log met (stepped machine side now input s)
-  step-so now input s log met so = go (machine.act s input now) refl
+  replied-so :
+      (reply : List ℕ) (now : ℕ) (input : Input C) (s : S) (log : List Entry) (met : List (Meeting C))
+      → IsSo None s log met → Behind log met (replied machine side reply now input s)
+  replied-so reply now input s log met so = go (machine.act s input now) refl
     where
       acted : (went : Went S Happening) → machine.act s input now ≡ went
           → course_of start machine (Acts input now ∷ met) ≡ went_on went (noted_by side log)
@@ -159,20 +159,26 @@ module _ {S C : Type 0} (machine : Machine S C) (start : Step S Happening) (side
       go : (went : Went S Happening) → machine.act s input now ≡ went
           → Behind log met
           (made (step_at side now input s) (machine.stops s input now) (machine.asks s input now)
-          (machine.fills s input now) went)
+          (machine.fills s input now) reply went)
       go (Goes step) is =
           goes-so now input step.next step.notes log met so.notes (acted (Goes step) is) s (machine.stops s input now)
-          (machine.asks s input now) (machine.fills s input now) step.written
+          (machine.asks s input now) (machine.fills s input now) reply step.written
       go (Spent step) is =
           spent-so now input step log met so.notes (acted (Spent step) is) s (machine.stops s input now)
-          (machine.asks s input now) (machine.fills s input now)
+          (machine.asks s input now) (machine.fills s input now) reply
+
+  step-so :
+      (now : ℕ) (input : Input C) (s : S) (log : List Entry) (met : List (Meeting C)) → IsSo None s log met
+      → Behind log met (stepped machine side now input s)
+  step-so = replied-so []
 
   -- ---- what the end is told, and an answer
 
   tell-so :
       (now : ℕ) (telling : Telling C) (s : S) (log : List Entry) (met : List (Meeting C)) → IsSo None s log met
       → Behind log met (tells machine side now telling s)
-  tell-so now (Tells command) s log met so = step-so now (Command command) s log met so
+  tell-so now (Tells command reply) s log met so = replied-so reply now (Command command) s log met so
+  tell-so now (Says text) s log met so = so
   tell-so now Stops s log met so = record { notes = so.notes; noted = so.noted; comes = so.comes }
   tell-so now IsOther s log met so = so
 

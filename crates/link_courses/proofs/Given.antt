@@ -14,11 +14,11 @@ use Rattle.message_end.specs.Ends.{Asked, Input, Machine, MayTake}
 use Rattle.message_end.specs.Ends.Input.{Char, Command, Time}
 use Rattle.trace_log.specs.Log.{Happening}
 use Rattle.end_run.specs.Commands.{Commands, IsTaken, MayTell, Telling}
-use Rattle.end_run.specs.Commands.Telling.{IsOther, Stops, Tells}
+use Rattle.end_run.specs.Commands.Telling.{IsOther, Says, Stops, Tells}
 use Rattle.end_run.specs.Pieces.{Piece, and_more, and_on}
 use Rattle.end_run.specs.Run.{begun, commanded_run, polled, turned, upon}
 use Rattle.end_run.specs.Script.{AreTold, ScriptLine, by_script, due_count, due_lines, told_by}
-use Rattle.end_run.specs.Steps.{all_told, answered, made, started, step_at, stepped, tells}
+use Rattle.end_run.specs.Steps.{all_told, answered, made, replied, started, step_at, stepped, tells}
 use Rattle.end_run.specs.declared.ending.Ending.{Ending}
 use Rattle.link_courses.specs.Courses.{met_by}
 use Rattle.link_courses.specs.Lawful.{GiveBytes}
@@ -55,7 +55,8 @@ module _ {C : Type 0} (told : ScriptStep → Telling C) (takes : C → Type 0) w
   MayLine line = MayTell takes (told line.1)
 
   is-taken : (telling : Telling C) → MayTell takes telling → IsTaken takes telling
-  is-taken (Tells command) may = may
+  is-taken (Tells command reply) may = may.0
+  is-taken (Says text) may = absurd may
   is-taken Stops may = tt
   is-taken IsOther may = absurd may
 
@@ -91,27 +92,32 @@ module _ {S C Q : Type 0} (machine : Machine S C) (due : S → Option ℕ) (comm
 
   made-given :
       (now : ℕ) (input : Input C) (s : S) (stops : List (List Happening)) (asked : Asked) (fills : Bool)
-      (went : Went S Happening)
-      → MayTake takes input → MayMeet (made (step_at side now input s) stops asked fills went)
-  made-given now input s stops asked fills (Spent step) may = (may, tt)
-  made-given now input s stops asked fills (Goes step) may = go step.written
+      (reply : List ℕ) (went : Went S Happening)
+      → MayTake takes input → MayMeet (made (step_at side now input s) stops asked fills reply went)
+  made-given now input s stops asked fills reply (Spent step) may = (may, tt)
+  made-given now input s stops asked fills reply (Goes step) may = go step.written
     where
       go : (written : List ℕ)
           → MayMeet
-          (made (step_at side now input s) stops asked fills
+          (made (step_at side now input s) stops asked fills reply
           (Goes (record { next = step.next; notes = step.notes; written = written })))
       go [] = (may, tt)
       go (byte ∷ bytes) = (tt, (may, tt))
 
+  replied-given : (reply : List ℕ) (now : ℕ) (input : Input C) → MayTake takes input → (s : S)
+      → MayMeet (replied machine side reply now input s)
+  replied-given reply now input may s =
+      made-given now input s (machine.stops s input now) (machine.asks s input now) (machine.fills s input now) reply
+      (machine.act s input now) may
+
   step-given : (now : ℕ) (input : Input C) → MayTake takes input → (s : S)
       → MayMeet (stepped machine side now input s)
-  step-given now input may s =
-      made-given now input s (machine.stops s input now) (machine.asks s input now) (machine.fills s input now)
-      (machine.act s input now) may
+  step-given = replied-given []
 
   tell-given : (now : ℕ) (telling : Telling C) → IsTaken takes telling → (s : S)
       → MayMeet (tells machine side now telling s)
-  tell-given now (Tells command) may s = step-given now (Command command) may s
+  tell-given now (Tells command reply) may s = replied-given reply now (Command command) may s
+  tell-given now (Says text) may s = tt
   tell-given now Stops may s = tt
   tell-given now IsOther may s = tt
 

@@ -1,5 +1,5 @@
 -- That each run of the host over a link keeps the law of an end.
-use Rattle.std.proofs.Common.{◌≡◌, ◌⊎◌, ◌++◌, subst, ℕ, List, inl, inr, Option, Some}
+use Rattle.std.proofs.Common.{◌≡◌, ◌⊎◌, ◌++◌, refl, subst, ℕ, List, inl, inr, Option, Some}
 use Rattle.command_words.specs.Asked.{Asked, Host}
 use Rattle.gl_base.specs.Told.{FilesTold, SinkTold, SourceTold}
 use Rattle.gl_base.specs.declared.input.Input.TheVariants as input
@@ -36,12 +36,13 @@ use Rattle.gemline_app.specs.declared.outcome.Outcome.{Outcome}
 use Rattle.link_courses.specs.Courses.{met_by, with_closing}
 use Rattle.link_courses.specs.Host.{AreAny, HostRanInCourse, HostRanLawfully, HostsKeepTheirLaws}
 use Rattle.link_courses.specs.Lawful.{GiveBytes, KeepsLawOfEnd}
-use Rattle.link_courses.specs.Noting.{HasNoted}
+use Rattle.link_courses.specs.Noting.{HasNoted, NoReply}
 use Rattle.link_courses.proofs.Coming.{run-so}
 use Rattle.link_courses.proofs.Given.{run-given, script-brings}
 use Rattle.link_courses.proofs.Lawful.{first-done}
 use Rattle.link_courses.proofs.Noting.{has-noted, there-first}
 use Rattle.link_courses.proofs.Replying.{replies-noted}
+use Rattle.link_courses.proofs.Writing.{host-silent, run-writes, script-silent}
 
 module _ (plan : HostPlan) (fits : HostPlanFits plan) (lines : List ScriptLine)
     (told : AreTold told_host HostCommandFits lines) (polls : ℕ) where
@@ -72,7 +73,10 @@ module _ (plan : HostPlan) (fits : HostPlanFits plan) (lines : List ScriptLine)
       let b = after_run link out was.left was.room was.stop in
       let noted : HasNoted host_machine (host_start plan) side.Host (host_run plan lines polls) a b was.ended =
       has-noted host_machine (host_start plan) side.Host (host_run plan lines polls) a b
-      (run-so host_machine (host_start plan) side.Host host_due (by_script told_host) lines polls) was.ended was.runs
+      (run-so host_machine (host_start plan) side.Host host_due (by_script told_host) lines polls)
+      (run-writes NoReply refl host_machine host_due (by_script told_host) (script-silent told_host host-silent)
+      side.Host (host_start plan) lines polls)
+      was.ended was.runs
       in
       let first = there-first was.ended (whole noted.answers) (noted_by side.Host noted.log) noted.there in
       record {

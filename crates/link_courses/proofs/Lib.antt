@@ -8,3 +8,4 @@ mod Noting
 mod Numbered
 mod Replying
 mod Tools
+mod Writing

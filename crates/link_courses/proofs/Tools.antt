@@ -50,7 +50,7 @@ use Rattle.gemline_app.specs.declared.outcome.Outcome.{Outcome}
 use Rattle.link_courses.specs.Courses.{ComesTo, IsCourse, met_by, with_closing}
 use Rattle.link_courses.specs.Equipment.{EquipmentsKeepTheirLaws, KeepsLaws, RanInCourse, RanLawfully}
 use Rattle.link_courses.specs.Lawful.{GiveBytes, KeepsLawOfEnd}
-use Rattle.link_courses.specs.Noting.{HasNoted}
+use Rattle.link_courses.specs.Noting.{HasNoted, NoReply}
 use Rattle.link_courses.proofs.Coming.{run-so}
 use Rattle.link_courses.proofs.Given.{run-given, script-brings}
 use Rattle.link_courses.proofs.Kept.{closing-keeps, first-keeps}
@@ -58,6 +58,7 @@ use Rattle.link_courses.proofs.Lawful.{first-done}
 use Rattle.link_courses.proofs.Noting.{has-noted, there-first}
 use Rattle.link_courses.proofs.Numbered.{has-slots, may-hold}
 use Rattle.link_courses.proofs.Replying.{replies-noted}
+use Rattle.link_courses.proofs.Writing.{run-writes, script-silent, tool-silent}
 
 -- ---- a course over a link is one of the equipment
 
@@ -171,7 +172,10 @@ module _ (law : EquipmentKeepsItsLaw) (reports : ReportsAreOfTheirEvents) (spool
         let b = after_run link out ran.left ran.room ran.stop in
         let noted : HasNoted machine start side.Equipment (equipment_run start lines polls) a b ended =
         has-noted machine start side.Equipment (equipment_run start lines polls) a b
-        (is-course start lines polls) ended ran.runs
+        (is-course start lines polls)
+        (run-writes NoReply refl linked_machine equipment_due (by_script told_equipment)
+        (script-silent told_equipment tool-silent) side.Equipment start lines polls)
+        ended ran.runs
         in
         let first = there-first ended (whole start over.started noted.answers)
         (noted_by side.Equipment noted.log) noted.there in

@@ -25,8 +25,8 @@ use Rattle.end_run.specs.declared.ending.Ending.TheVariants as ending
 abbrev pub met_in : {S C : Type 0} → Act S C → List (Meeting C)
 met_in (Stands at stops asked end) = Acts at.input at.moment ∷ []
 met_in Connects = []
-met_in (Polls until answer) = []
-met_in (Writes entries) = []
+met_in (Polls until answer early) = []
+met_in (Writes entries text) = []
 met_in (Sends characters) = WritesDown characters ∷ []
 
 -- all that it meets in these acts, the newest first

@@ -9,6 +9,7 @@ use Rattle.message_end.specs.Ends.{Input, Machine, none_asked}
 use Rattle.message_end.specs.Ends.Input.{Time}
 use Rattle.trace_log.specs.Log.{Entry, Happening}
 use Rattle.trace_log.specs.Log.Entry.{Noted}
+use Rattle.trace_log.specs.Text.{text_of}
 use Rattle.end_run.specs.Acts.{Act}
 use Rattle.end_run.specs.Acts.Act.{Connects, Stands, Writes}
 use Rattle.end_run.specs.Pieces.{Piece}
@@ -44,6 +45,9 @@ counter line = record {
 abbrev pub CountsAct : Type 0
 CountsAct = Act ℕ (Unit {0})
 
+abbrev pub writes : List Entry → CountsAct
+writes entries = Writes entries (text_of entries)
+
 -- a step with time, at a moment, of so many before; and its entries
 abbrev pub stands : ℕ → ℕ → CountsAct
 stands now before =
@@ -57,7 +61,7 @@ abbrev pub closed_at : ℕ → List Entry
 closed_at now = Noted now side.Host Happening.Closed ∷ []
 
 abbrev pub opens : List CountsAct → List CountsAct
-opens acts = Writes (Noted 0 side.Host (Happening.HostStarted None) ∷ []) ∷ Connects ∷ acts
+opens acts = writes (Noted 0 side.Host (Happening.HostStarted None) ∷ []) ∷ Connects ∷ acts
 
 abbrev pub goes_on : ℕ → List CountsAct → Piece ℕ (Unit {0})
 goes_on end acts = record { end = end; acts = opens acts; ended = None }
@@ -69,36 +73,36 @@ closes end acts = record { end = end; acts = opens acts; ended = Some ending.Clo
 
 -- two steps, and the peer closes the connection
 abbrev pub whole : Piece ℕ (Unit {0})
-whole = closes 2 (stands 0 0 ∷ Writes (noted_at 0 0) ∷ stands 5 1 ∷ Writes (noted_at 5 1) ∷ Writes (closed_at 5) ∷ [])
+whole = closes 2 (stands 0 0 ∷ writes (noted_at 0 0) ∷ stands 5 1 ∷ writes (noted_at 5 1) ∷ writes (closed_at 5) ∷ [])
 
 -- it notes what no step has made; the notes of a step twice; nothing of a step; or that of another end
 abbrev pub invented : Piece ℕ (Unit {0})
-invented = goes_on 1 (stands 0 0 ∷ Writes (Noted 0 side.Host (Happening.Set 9) ∷ noted_at 0 0) ∷ [])
+invented = goes_on 1 (stands 0 0 ∷ writes (Noted 0 side.Host (Happening.Set 9) ∷ noted_at 0 0) ∷ [])
 
 abbrev pub repeated : Piece ℕ (Unit {0})
-repeated = goes_on 1 (stands 0 0 ∷ Writes (noted_at 0 0) ∷ Writes (noted_at 0 0) ∷ [])
+repeated = goes_on 1 (stands 0 0 ∷ writes (noted_at 0 0) ∷ writes (noted_at 0 0) ∷ [])
 
 abbrev pub forgotten : Piece ℕ (Unit {0})
-forgotten = goes_on 2 (stands 0 0 ∷ Writes (noted_at 0 0) ∷ stands 5 1 ∷ [])
+forgotten = goes_on 2 (stands 0 0 ∷ writes (noted_at 0 0) ∷ stands 5 1 ∷ [])
 
 abbrev pub of_other : Piece ℕ (Unit {0})
 of_other =
-    goes_on 1 (stands 0 0 ∷ Writes (noted_at 0 0) ∷ Writes (Noted 0 side.Equipment Happening.StepEnded ∷ []) ∷ [])
+    goes_on 1 (stands 0 0 ∷ writes (noted_at 0 0) ∷ writes (Noted 0 side.Equipment Happening.StepEnded ∷ []) ∷ [])
 
 -- the closing amid the steps, and where the run goes on; and a run that ends so without it
 abbrev pub closed_amid : Piece ℕ (Unit {0})
 closed_amid =
-    closes 2 (stands 0 0 ∷ Writes (noted_at 0 0) ∷ Writes (closed_at 0) ∷ stands 5 1 ∷ Writes (noted_at 5 1) ∷ [])
+    closes 2 (stands 0 0 ∷ writes (noted_at 0 0) ∷ writes (closed_at 0) ∷ stands 5 1 ∷ writes (noted_at 5 1) ∷ [])
 
 abbrev pub closed_early : Piece ℕ (Unit {0})
-closed_early = goes_on 1 (stands 0 0 ∷ Writes (noted_at 0 0) ∷ Writes (closed_at 0) ∷ [])
+closed_early = goes_on 1 (stands 0 0 ∷ writes (noted_at 0 0) ∷ writes (closed_at 0) ∷ [])
 
 abbrev pub unclosed : Piece ℕ (Unit {0})
-unclosed = closes 1 (stands 0 0 ∷ Writes (noted_at 0 0) ∷ [])
+unclosed = closes 1 (stands 0 0 ∷ writes (noted_at 0 0) ∷ [])
 
 -- the end is left another than its steps have made it
 abbrev pub elsewhere : Piece ℕ (Unit {0})
-elsewhere = goes_on 7 (stands 0 0 ∷ Writes (noted_at 0 0) ∷ [])
+elsewhere = goes_on 7 (stands 0 0 ∷ writes (noted_at 0 0) ∷ [])
 
 abbrev pub IsItsCourse : LineState → Piece ℕ (Unit {0}) → Type 0
 IsItsCourse line run = IsCourse (counter line) begins side.Host run

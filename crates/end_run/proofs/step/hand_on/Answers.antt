@@ -1,6 +1,9 @@
 -- The lines are written, and then the characters sent; each way in which that ends, with the fault that is counted.
 
-use Rattle.std.proofs.Common.{List, ℕ, [], ◌∷◌, None, refl, subst, sym, ◌∙◌}
+use Rattle.std.proofs.Common.{List, ℕ, [], ◌∷◌, ◌++◌, None, ap, refl, subst, sym, ◌∙◌}
+use Rattle.gl_base.specs.Sending.{WroteShort, WroteText}
+use Rattle.gl_base.specs.Told.{sink_told}
+use Rattle.trace_log.specs.Text.{text_of}
 use Rattle.end_run.specs.Acts.Act.{Writes}
 use Rattle.end_run.specs.Outcome.{Does}
 use Rattle.end_run.specs.Scenes.{beside}
@@ -17,15 +20,20 @@ returns-in_default-clause-does g c = λ s room stop entries same. part_none _ _
 pub returns-in_default-copy_out-clause-does : goal.returns-in_default-copy_out-clause-does
 returns-in_default-copy_out-clause-does g c =
     λ s room stop entries same.
-    short_fails _ _ _ entries c.as_slice.result.now (same ∙ sym (c.as_slice.ensures ∙ c.in-Ok.ensures))
-    (sends c.args.step.now.line.items) c.in_default-copy_out.ensures
+    short_fails _ _ _ entries (text_of entries ++ c.args.reply.now) (sends c.args.step.now.line.items)
+    (subst (λ (text : List ℕ). WroteShort (sink_told g.W.Sink c.args.out.now c.copy_out.new.out) text)
+    (c.as_slice.ensures ∙ c.in-Ok.ensures ∙ ap (λ (text : List ℕ). text ++ c.args.reply.now) (sym same))
+    c.in_default-copy_out.ensures)
 
 pub returns-clause-does : goal.returns-clause-does
 returns-clause-does g c =
     λ s room stop entries same.
-    does_behind _ (Writes entries ∷ [])
-    (wrote_did _ _ _ entries c.as_slice.result.now (same ∙ sym
-    (c.as_slice.ensures ∙ c.in-Ok.ensures)) c.in-Done.ensures)
+    let text = text_of entries ++ c.args.reply.now in
+    does_behind _ (Writes entries text ∷ [])
+    (wrote_did _ _ _ entries text
+    (subst (λ (text : List ℕ). WroteText (sink_told g.W.Sink c.args.out.now c.copy_out.new.out) text)
+    (c.as_slice.ensures ∙ c.in-Ok.ensures ∙ ap (λ (text : List ℕ). text ++ c.args.reply.now) (sym same))
+    c.in-Done.ensures))
     None (sends c.args.step.now.line.items) c.send_all.result
     (subst
     (λ (characters : List ℕ). Does (beside g.L.Link (g.W.Sink.received c.copy_out.new.out)

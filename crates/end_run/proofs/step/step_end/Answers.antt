@@ -14,7 +14,7 @@ use Rattle.end_run.specs.Calls.{EndsWith, PutsAsCan}
 use Rattle.end_run.specs.Counts.{StepCounts, counted}
 use Rattle.end_run.specs.Outcome.{Comes}
 use Rattle.end_run.specs.Scenes.{Stays, scene}
-use Rattle.end_run.specs.Steps.{step_at, stepped}
+use Rattle.end_run.specs.Steps.{replied, step_at}
 use Rattle.end_run.proofs.Counting.{counts_behind, ends_count, puts_count}
 use Rattle.end_run.proofs.Stepping.{gone_comes, lacks_memory, spent_runs, stopped_runs}
 use Rattle.end_run.proofs.step.step_end.Goals as goal
@@ -41,7 +41,7 @@ returns-in-Err-NumbersSpent-clause-runs g c =
       Some (record { at = step_at c.args.side now input s; out = c.step.new.out; why = stop.NumbersSpent }),
       left,
       spent_runs c.notes_are_lines.ensures (step_at c.args.side now input s) (e.machine.stops s input now)
-          (e.machine.asks s input now) (e.machine.fills s input now) (e.machine.act s input now) c.step.new.out
+          (e.machine.asks s input now) (e.machine.fills s input now) c.args.reply.now (e.machine.act s input now) c.step.new.out
           (scene g.L.Link g.W.Sink c.args.link.now c.args.out.now s (e.room c.args.end.now) None) refl
           (e.means c.step.new.self) (e.room c.step.new.self) _ _ false spent.1 spent.0
           c.end_with.result
@@ -73,7 +73,7 @@ returns-in-Err-Full-clause-runs g c =
       Some (record { at = step_at c.args.side now input s; out = c.step.new.out; why = stop.Full }),
       left,
       spent_runs c.notes_are_lines.ensures (step_at c.args.side now input s) (e.machine.stops s input now)
-          (e.machine.asks s input now) (e.machine.fills s input now) (e.machine.act s input now) c.step.new.out
+          (e.machine.asks s input now) (e.machine.fills s input now) c.args.reply.now (e.machine.act s input now) c.step.new.out
           (scene g.L.Link g.W.Sink c.args.link.now c.args.out.now s (e.room c.args.end.now) None) refl
           (e.means c.step.new.self) (e.room c.step.new.self) _ _ true spent.1 spent.0
           c.end_with-in-Err-Full.result
@@ -112,12 +112,12 @@ returns-in-Err-DiskFailed-clause-runs g c =
     subst
     (λ (how : Ending). Comes e.known e.left c.step.new.self a
     (scene g.L.Link g.W.Sink c.args.link.now c.put_stopped.new.out (e.means c.step.new.self) (e.room c.step.new.self))
-    (stepped e.machine c.args.side now input s) (Some how))
+    (replied e.machine c.args.side c.args.reply.now now input s) (Some how))
     (sym c.put_stopped.ensures.is) (
       Some (record { at = step_at c.args.side now input s; out = c.step.new.out; why = stop.DiskFailed }),
       left,
       stopped_runs c.notes_are_lines.ensures (step_at c.args.side now input s) (e.machine.stops s input now)
-          (e.machine.asks s input now) (e.machine.fills s input now) (e.machine.act s input now) c.step.new.out a refl (e.means c.step.new.self)
+          (e.machine.asks s input now) (e.machine.fills s input now) c.args.reply.now (e.machine.act s input now) c.step.new.out a refl (e.means c.step.new.self)
           (e.room c.step.new.self) _ _ halt short
           (subst
           (λ (ns : List Note). PutsAsCan (sink_told g.W.Sink c.args.out.now c.put_stopped.new.out)
@@ -140,7 +140,7 @@ returns-in-Err-NoMemory-clause-runs g c =
       Some (record { at = step_at c.args.side now input s; out = c.step.new.out; why = stop.NoMemory }),
       left,
       lacks_memory c.notes_are_lines.ensures (step_at c.args.side now input s) (e.machine.stops s input now)
-          (e.machine.asks s input now) (e.machine.fills s input now) (e.machine.act s input now) c.step.new.out
+          (e.machine.asks s input now) (e.machine.fills s input now) c.args.reply.now (e.machine.act s input now) c.step.new.out
           (scene g.L.Link g.W.Sink c.args.link.now c.args.out.now s (e.room c.args.end.now) None) refl
           (e.means c.step.new.self) (e.room c.step.new.self),
     )
@@ -153,7 +153,7 @@ returns-clause-runs g c =
     let input = input_of c.args.input in
     let now = c.args.now in
     gone_comes c.notes_are_lines.ensures (step_at c.args.side now input s) (e.machine.stops s input now)
-    (e.machine.asks s input now) (e.machine.fills s input now) (e.machine.act s input now) c.step.new.out e.known e.left c.step.new.self
+    (e.machine.asks s input now) (e.machine.fills s input now) c.args.reply.now (e.machine.act s input now) c.step.new.out e.known e.left c.step.new.self
     (scene g.L.Link g.W.Sink c.args.link.now c.args.out.now s (e.room c.args.end.now) None)
     (scene g.L.Link g.W.Sink c.hand_on.new.link c.hand_on.new.out (e.means c.step.new.self) (e.room c.step.new.self))
     (e.means c.step.new.self) (e.room c.step.new.self) refl (c.in-Ok.ensures.step known) (c.in-Ok.ensures.room known)

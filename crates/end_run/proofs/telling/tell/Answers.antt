@@ -32,7 +32,7 @@ returns-in-Some-clause-runs g c =
     (scene g.L.Link g.W.Sink c.step_end.new.link c.step_end.new.out (e.means c.step_end.new.end)
     (e.room c.step_end.new.end))
     piece c.step_end.result)
-    (e.means c.args.end.now) (e.told c.args.step.now) c.in-Some.command.now (sym c.in-Some.ensures)
+    (e.means c.args.end.now) (e.told c.args.step.now) c.in-Some.command.now c.requires.step (sym c.in-Some.ensures)
     (c.step_end.ensures.runs known)
 
 pub returns-in-None-clause-counts : goal.returns-in-None-clause-counts
