@@ -7,4 +7,5 @@ pub mod Polling
 pub mod Sides
 pub mod Starting
 pub mod Stepping
+mod Telling
 pub mod Turning

@@ -34,33 +34,20 @@ nothing_runs a run = record {
   runs = part_none a (run (rest_of a.contents)).acts;
 }
 
-module _ {S C Q : Type 0} (machine : Machine S C) (due : S → Option ℕ) (commands : Commands Q C) (side : Side)
-    (start : Step S Happening) (coming : Q) (polls : ℕ) where
-  -- all of the run, by the answers
-  abbrev pub all_of : List LinkIn → Piece S C
-  all_of answers = commanded_run machine due commands side start coming polls answers
+-- ---- up to the first step
 
+module _ {S C : Type 0} (machine : Machine S C) (side : Side) (start : Step S Happening) where
   abbrev pub entries : List Entry
   entries = entries_at side 0 start.notes
-
-  -- a run that ended before its first poll
-  ends_early : (a b : Scene S C) (how : Ending) → Runs a b (begun machine side start) (Some how)
-      → RunsOver a b all_of how
-  ends_early a b how runs = record {
-    answers = rest_of a.contents;
-    to_come = rest_comes a.contents;
-    runs =
-        runs_stop a b (begun machine side start)
-        (polled machine due commands side polls coming 0 (rest_of a.contents)) how runs;
-  }
-
-  start_stops : (a b : Scene S C) (how : Ending) → Runs a b (started side start) (Some how) → RunsOver a b all_of how
-  start_stops a b how runs =
-      ends_early a b how (runs_stop a b (started side start) (stepped machine side 0 Time) how runs)
 
   -- what is written of it
   abbrev pub lines : List ℕ
   lines = text_of entries ++ []
+
+  -- it has ended with the start, before the first step
+  start_stops : (a b : Scene S C) (how : Ending) → Runs a b (started side start) (Some how)
+      → Runs a b (begun machine side start) (Some how)
+  start_stops a b how runs = runs_stop a b (started side start) (stepped machine side 0 Time) how runs
 
   module _ (a : Scene S C) (text : List ℕ) (is : text_of entries ≡ text) (r' : Option (List ℕ)) (k' : SinkHealth) where
     same_text : text ≡ lines
@@ -68,7 +55,7 @@ module _ {S C Q : Type 0} (machine : Machine S C) (due : S → Option ℕ) (comm
 
     -- it stopped at the lines of its start
     pub start_falls : (how : Ending) → StopsAtStart (written a (with_out a r' k')) text how
-        → RunsOver a (with_out a r' k') all_of how
+        → Runs a (with_out a r' k') (begun machine side start) (Some how)
     start_falls how falls =
         start_stops a (with_out a r' k') how
         (go how (subst (λ (t : List ℕ). StopsAtStart (written a (with_out a r' k')) t how) same_text falls))
@@ -103,7 +90,7 @@ module _ {S C Q : Type 0} (machine : Machine S C) (due : S → Option ℕ) (comm
       }
 
       -- it didn't connect
-      pub connects_not : LinkFault a.link h' 0 → RunsOver a called all_of LinkFailed
+      pub connects_not : LinkFault a.link h' 0 → Runs a called (begun machine side start) (Some LinkFailed)
       connects_not fault = start_stops a called LinkFailed (record {
         done = Writes entries lines ∷ [];
         failed = Connects;
@@ -117,7 +104,8 @@ module _ {S C Q : Type 0} (machine : Machine S C) (due : S → Option ℕ) (comm
         end = record { end = refl; stop = refl };
       })
 
-      start_runs : IsCarriedOn a.link h' 0 → Runs a called (started side start) None
+      -- it did
+      pub start_runs : IsCarriedOn a.link h' 0 → Runs a called (started side start) None
       start_runs carried = (
         refl,
         record {
@@ -128,42 +116,45 @@ module _ {S C Q : Type 0} (machine : Machine S C) (due : S → Option ℕ) (comm
         },
       )
 
-      module _ (carried : IsCarriedOn a.link h' 0) (b : Scene S C) (mid : S) (is_mid : mid ≡ start.next) where
-        -- its first step
-        first_step : (result : Option Ending) → Runs called b (stepped machine side 0 Time mid) result
-            → Runs a b (begun machine side start) result
-        first_step result runs =
-            runs_more b (started side start) (stepped machine side 0 Time) mid result (start_runs carried) is_mid runs
+-- ---- and on
 
-        pub stops_at_first : (how : Ending) → Runs called b (stepped machine side 0 Time mid) (Some how)
-            → RunsOver a b all_of how
-        stops_at_first how runs = ends_early a b how (first_step (Some how) runs)
+module _ {S C Q : Type 0} (machine : Machine S C) (due : S → Option ℕ) (commands : Commands Q C) (side : Side)
+    (start : Step S Happening) (coming : Q) (polls : ℕ) where
+  -- all of the run, by the answers
+  abbrev pub all_of : List LinkIn → Piece S C
+  all_of answers = commanded_run machine due commands side start coming polls answers
 
-        -- it goes on behind that
-        pub runs_on : (c : Scene S C) (s : S) (how : Ending) → Runs called b (stepped machine side 0 Time mid) None
-            → s ≡ (stepped machine side 0 Time mid).end
-            → RunsOver b c (λ answers. polled machine due commands side polls coming 0 answers s) how
-            → RunsOver a c all_of how
-        runs_on c s how step is_s over = record {
-          answers = over.answers;
-          to_come =
-              subst (λ (answers : List LinkIn). AreToCome a.contents (answers ++ over.answers)) none
-              (comes_behind a.contents b.contents first.acts over.answers runs.1.made.linked.listed over.to_come);
-          runs =
-              runs_more c first (polled machine due commands side polls coming 0 over.answers) s (Some how) runs
-              (is_s ∙ sym first_end) over.runs;
-        }
-          where
-            first : Piece S C
-            first = begun machine side start
+  -- a run that ended before its first poll
+  pub ends_early : (a b : Scene S C) (how : Ending) → Runs a b (begun machine side start) (Some how)
+      → RunsOver a b all_of how
+  ends_early a b how runs = record {
+    answers = rest_of a.contents;
+    to_come = rest_comes a.contents;
+    runs =
+        runs_stop a b (begun machine side start)
+        (polled machine due commands side polls coming 0 (rest_of a.contents)) how runs;
+  }
 
-            runs : Runs a b first None
-            runs = first_step None step
+  -- one that went on
+  pub runs_on :
+      (a b c : Scene S C) (s : S) (how : Ending) → Runs a b (begun machine side start) None
+      → s ≡ (begun machine side start).end
+      → RunsOver b c (λ answers. polled machine due commands side polls coming 0 answers s) how
+      → RunsOver a c all_of how
+  runs_on a b c s how runs is_s over = record {
+    answers = over.answers;
+    to_come =
+        subst (λ (answers : List LinkIn). AreToCome a.contents (answers ++ over.answers)) none
+        (comes_behind a.contents b.contents first.acts over.answers runs.1.made.linked.listed over.to_come);
+    runs =
+        runs_more c first (polled machine due commands side polls coming 0 over.answers) s (Some how) runs is_s
+        over.runs;
+  }
+    where
+      first : Piece S C
+      first = begun machine side start
 
-            none : taken_of first.acts ≡ []
-            none =
-                more-none machine side (started side start) (stepped machine side 0 Time) refl
-                (stepped-none machine side 0 Time)
-
-            first_end : first.end ≡ (stepped machine side 0 Time mid).end
-            first_end = ap (λ (s : S). (stepped machine side 0 Time s).end) (sym is_mid)
+      none : taken_of first.acts ≡ []
+      none =
+          more-none machine side (started side start) (stepped machine side 0 Time) refl
+          (stepped-none machine side 0 Time)

@@ -1,5 +1,5 @@
 -- What single calls of a run leave.
-use Rattle.std.specs.Prelude.{◌≡◌, ◌≢◌, ◌⊎◌, ◌<◌, ℕ, drop, List, [], Option, Some, None}
+use Rattle.std.specs.Prelude.{◌≡◌, ◌≢◌, ◌⊎◌, ◌<◌, ℕ, drop, List, [], ◌∷◌, Option, Some, None}
 use Rattle.gl_base.specs.Connections.{connected_as}
 use Rattle.gl_base.specs.Events.{moment_after}
 use Rattle.gl_base.specs.Link.{IsToldAnswer, LinkFault}
@@ -16,11 +16,12 @@ use Rattle.message_flow.specs.declared.step.StepOut.{StepOut}
 use Rattle.end_run.specs.declared.ending.Ending.{Ending}
 use Rattle.end_run.specs.declared.ending.Ending.TheVariants.{Closed, DiskFailed, Full, LinkFailed, NoMemory, NumbersSpent, Stopped, Turns, WriteFailed}
 use Rattle.end_run.specs.declared.polls.Place.{Place}
-use Rattle.end_run.specs.Commands.{Commands}
+use Rattle.end_run.specs.Commands.{Commands, Telling, as_it_comes}
 use Rattle.end_run.specs.Outcome.{Comes, IfOn}
 use Rattle.end_run.specs.Run.{turned}
 use Rattle.end_run.specs.Scenes.{Scene, StopAt}
 use Rattle.end_run.specs.Script.{ScriptLine}
+use Rattle.end_run.specs.Told.{Brings}
 
 -- ---- the connection
 
@@ -123,3 +124,18 @@ module _
         Scene S C → (Option (StopAt S C) → Scene S C) → Left S Q → Left S Q → Option Ending → Type 0
     HasTurned a b before after result =
         (PollFails a (b None) result × known end) ⊎ ((answer : LinkIn) × Turned a b before after result answer)
+
+-- a poll by what comes beside the link: so much has come, and whatever comes behind it, the poll is one of the run by
+-- all of that
+pub record TurnedTold {E S C : Type 0} (known : E → Type 0)
+    (left : S → Input C → ℕ → StepOut → Stop → E → Type 0) (end : E) (machine : Machine S C) (due : S → Option ℕ)
+    (side : Side) (a : Scene S C) (b : Option (StopAt S C) → Scene S C) (before after : S) (moment now : ℕ)
+    (told told_after : Option (List (List (Telling C)))) (result : Option Ending) : Type 0 where
+  pub here : List (Telling C)
+  pub brings : Brings told here told_after
+  pub turned :
+      (later : List (List (Telling C)))
+      → HasTurned known left end machine due as_it_comes side a b
+      (record { end = before; coming = here ∷ later; moment = moment })
+      (record { end = after; coming = later; moment = now })
+      result

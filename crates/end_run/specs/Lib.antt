@@ -9,3 +9,4 @@ pub mod Scenes
 pub mod Script
 pub mod Sides
 pub mod Steps
+pub mod Told

@@ -15,9 +15,11 @@ use Rattle.end_run.specs.declared.ending.Ending.{Ending}
 use Rattle.end_run.specs.declared.ending.Ending.TheVariants.{Closed, DiskFailed, Full, LinkFailed, NoMemory, NumbersSpent, Stopped, Turns, WriteFailed}
 use Rattle.end_run.specs.Acts.{Act, StepAt, AreTimely, asked_by, end_by, lines_of, list_of, listed, moment_by, taken_of}
 use Rattle.end_run.specs.Acts.Act.{Connects, Polls, Sends, Stands, Writes}
+use Rattle.end_run.specs.Commands.{Telling}
 use Rattle.end_run.specs.Pieces.{Piece}
 use Rattle.end_run.specs.Scenes.{IsSo, Scene, StopAt, written}
 use Rattle.end_run.specs.Steps.{entries_at}
+use Rattle.end_run.specs.Told.{MayCome}
 
 -- ---- what was done
 
@@ -236,3 +238,8 @@ module _ {E S C : Type 0} (known : E → Type 0) (left : S → Input C → ℕ �
   -- all of a run
   abbrev pub ComesOver : (List LinkIn → Piece S C) → Ending → Type 0
   ComesOver run result = (stop : Option (StopAt S C)) × IsSo known left end stop × RunsOver a (b stop) run result
+
+-- the same by what comes beside the link: by something that may come, which is what is told where it is told
+abbrev pub ByWhatComes :
+    {C : Type 0} → Option (List (List (Telling C))) → (List (List (Telling C)) → Type 0) → Type 0
+ByWhatComes {C} told Over = (coming : List (List (Telling C))) × MayCome told coming × Over coming

@@ -25,7 +25,7 @@ use std::alloc::Global;
 use trace_log::{closed_note, notes_are_lines};
 
 /// The last moment that a poll may ask for.
-const LAST_MOMENT: u64 = (1 << 62) - 1;
+pub(crate) const LAST_MOMENT: u64 = (1 << 62) - 1;
 
 /// How far a run is: how many lines of its script were given, and the moment of the last answer that had one.
 #[derive(Clone, Copy)]

@@ -2,6 +2,7 @@
 
 ghost use Rattle.std.specs.Prelude.{◌≡◌, None, Some};
 ghost use Rattle.std.specs.List.{flat_map};
+ghost use Rattle.gl_base.specs.Connections.{connected_as};
 ghost use Rattle.gl_base.specs.Told.{sink_told};
 ghost use Rattle.message_end.specs.Core.{Step};
 ghost use Rattle.message_end.specs.Ends.{printed};
@@ -9,8 +10,8 @@ ghost use Rattle.trace_log.specs.Log.{Happening};
 ghost use Rattle.trace_log.specs.Text.{note_line};
 ghost use Rattle.end_run.specs.Calls.{HasConnected, PutsStart};
 ghost use Rattle.end_run.specs.Counts.{Counts, counted};
-ghost use Rattle.end_run.specs.Outcome.{ComesOver};
-ghost use Rattle.end_run.specs.Run.{started_run};
+ghost use Rattle.end_run.specs.Outcome.{Comes, ComesOver, IfOn};
+ghost use Rattle.end_run.specs.Run.{begun, started_run};
 ghost use Rattle.end_run.specs.Scenes.{scene};
 ghost use Rattle.end_run.specs.Script.{AreTold};
 
@@ -63,19 +64,49 @@ pub fn run_started<E: LinkedEnd, L: Link, W: Sink>(
     ensures sound { E.sound end.new }
     ensures connected { HasConnected side address.now L.Link link.old link.new }
 {
-    notes_are_lines();
-    match put_start(alloc, side, notes, out) {
-        None => {}
-        Some(ending) => return ending,
-    }
-    let LinkAnswer::Done = link.connect(side, address) else {
-        return Ending::LinkFailed;
-    };
-    match step_plain(alloc, side, 0, None, end, link, out) {
+    match begin::<E, L, W>(alloc, end, notes, side, address, link, out) {
         None => {}
         Some(ending) => return ending,
     }
     poll_all::<E, L, W>(alloc, side, script.lines.as_slice(), polls, end, link, out)
+}
+
+/// The lines of an end's start are written, it connects, and makes a step with time at moment 0. Tells how the run ends
+/// with that, where it does.
+pub(crate) fn begin<E: LinkedEnd, L: Link, W: Sink>(
+    alloc: Global,
+    end: &mut E,
+    notes: &[Note],
+    side: Side,
+    address: &str,
+    link: &mut L,
+    out: &mut W,
+) -> Option<Ending>
+    requires sound { E.sound end.old }
+    ensures runs { E.known end.old
+        → (start : Step E.State Happening) → start.next ≡ E.means end.old → printed start.notes ≡ notes.now
+        → Comes E.known E.left end.new
+        (scene L.Link W.Sink link.old out.old (E.means end.old) (E.room end.old) None)
+        (scene L.Link W.Sink link.new out.new (E.means end.new) (E.room end.new))
+        (begun E.machine side start)
+        result }
+    ensures counts { Counts
+        (counted L.Link W.Sink link.old out.old (E.device end.old))
+        (counted L.Link W.Sink link.new out.new (E.device end.new))
+        result }
+    ensures sound { E.sound end.new }
+    ensures connected { HasConnected side address.now L.Link link.old link.new }
+    ensures opened { IfOn result (L.connected link.new ≡ connected_as side address.now (L.connected link.old)) }
+{
+    notes_are_lines();
+    match put_start(alloc, side, notes, out) {
+        None => {}
+        Some(ending) => return Some(ending),
+    }
+    let LinkAnswer::Done = link.connect(side, address) else {
+        return Some(Ending::LinkFailed);
+    };
+    step_plain(alloc, side, 0, None, end, link, out)
 }
 
 // The lines of a start are written. Tells how the run ends with them, where it does.
