@@ -211,10 +211,11 @@ fn tell_here<E: LinkedEnd, L: Link, N: Teller<L, Command = E::Command>, W: Sink>
     ensures connected { L.connected link.new ≡ L.connected link.old }
 {
     'tellings: loop {
-        match told.next(alloc) {
-            Ok(true) => {}
-            Ok(false) => return None,
-            Err(_) => return Some(Ending::NoMemory),
+        let Ok(more) = told.next(alloc) else {
+            return Some(Ending::NoMemory);
+        };
+        if !more {
+            return None;
         }
         match tell_one::<E, L, W>(alloc, side, now, told.told(), end, link, out) {
             None => {}
