@@ -1,3 +1,4 @@
+mod Beside
 pub mod Coming
 pub mod Counting
 pub mod Doing
@@ -7,5 +8,4 @@ pub mod Polling
 pub mod Sides
 pub mod Starting
 pub mod Stepping
-mod Telling
 pub mod Turning

@@ -8,7 +8,7 @@ use Rattle.end_run.specs.Run.{polled}
 use Rattle.end_run.specs.Scenes.{scene}
 use Rattle.end_run.proofs.Counting.{counts_behind}
 use Rattle.end_run.proofs.Polling.{polled_first}
-use Rattle.end_run.proofs.Telling.{told_as, told_on, told_out, told_over}
+use Rattle.end_run.proofs.Beside.{told_as, told_on, told_out, told_over}
 use Rattle.end_run.proofs.live.poll_told.Goals as goal
 
 pub polls-init : goal.polls-init

@@ -5,7 +5,7 @@ use Rattle.end_run.specs.Commands.{as_it_comes}
 use Rattle.end_run.specs.Counts.{CountsNone, counted}
 use Rattle.end_run.specs.Run.{polled}
 use Rattle.end_run.specs.Scenes.{scene}
-use Rattle.end_run.proofs.Telling.{IsToldSo}
+use Rattle.end_run.proofs.Beside.{IsToldSo}
 use Rattle.end_run.proofs.live.poll_told.Given as goal
 
 abbrev pub invariant-polls : goal.invariant-polls

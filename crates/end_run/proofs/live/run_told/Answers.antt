@@ -5,7 +5,7 @@ use Rattle.end_run.specs.Commands.{as_it_comes}
 use Rattle.end_run.specs.Counts.{counted}
 use Rattle.end_run.proofs.Counting.{counts_behind}
 use Rattle.end_run.proofs.Starting.{ends_early, runs_on}
-use Rattle.end_run.proofs.Telling.{rest_may, rest_told}
+use Rattle.end_run.proofs.Beside.{rest_may, rest_told}
 use Rattle.end_run.proofs.live.run_told.Goals as goal
 
 pub returns-in-Some-clause-runs : goal.returns-in-Some-clause-runs

@@ -6,7 +6,7 @@ use Rattle.end_run.specs.Counts.{counted}
 use Rattle.end_run.specs.Steps.{all_told, tells}
 use Rattle.end_run.proofs.Counting.{counts_behind}
 use Rattle.end_run.proofs.Doing.{leads_done, leads_first, leads_on, leads_stop}
-use Rattle.end_run.proofs.Telling.{leads_part}
+use Rattle.end_run.proofs.Beside.{leads_part}
 use Rattle.end_run.proofs.live.tell_here.Goals as goal
 
 pub tellings-init : goal.tellings-init

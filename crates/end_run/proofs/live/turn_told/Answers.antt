@@ -7,7 +7,7 @@ use Rattle.end_run.specs.Counts.{counted}
 use Rattle.end_run.specs.Scenes.{scene}
 use Rattle.end_run.specs.Told.{Brings}
 use Rattle.end_run.proofs.Counting.{counts_behind}
-use Rattle.end_run.proofs.Telling.{left_told}
+use Rattle.end_run.proofs.Beside.{left_told}
 use Rattle.end_run.proofs.Turning.{if_on, turned_by}
 use Rattle.end_run.proofs.live.turn_told.Goals as goal
 
