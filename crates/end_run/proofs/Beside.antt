@@ -1,5 +1,5 @@
 -- What comes beside a link, and the polls that it commands.
-use Rattle.std.proofs.Common.{◌≡◌, ℕ, zero, suc, List, [], ◌∷◌, ◌++◌, Option, Some, None, refl, sym, ap, subst, ◌∙◌, append_assoc}
+use Rattle.std.proofs.Common.{◌≡◌, ℕ, zero, suc, Bool, true, false, List, [], ◌∷◌, ◌++◌, Option, Some, None, refl, sym, ap, subst, ◌∙◌, append_assoc}
 use Rattle.gl_base.specs.declared.link.LinkIn.{LinkIn}
 use Rattle.gl_base.specs.declared.side.Side.{Side}
 use Rattle.message_end.specs.declared.end.Stop.{Stop}
@@ -8,11 +8,13 @@ use Rattle.message_flow.specs.declared.step.StepOut.{StepOut}
 use Rattle.end_run.specs.declared.ending.Ending.{Ending}
 use Rattle.end_run.specs.declared.ending.Ending.TheVariants as ending
 use Rattle.end_run.specs.Calls.{Left, TurnedTold}
-use Rattle.end_run.specs.Commands.{Telling, as_it_comes, behind_first, first_of}
+use Rattle.end_run.specs.Commands.{IsTaken, Telling, as_it_comes, behind_first, first_of}
+use Rattle.end_run.specs.Commands.Telling.{IsOther, Says, Stops, Tells}
 use Rattle.end_run.specs.Outcome.{ByWhatComes, ComesOver, Runs}
-use Rattle.end_run.specs.Pieces.{Piece}
+use Rattle.end_run.specs.Pieces.{Piece, and_more}
 use Rattle.end_run.specs.Scenes.{Scene, StopAt}
-use Rattle.end_run.specs.Told.{Brings, GoesBy, MayCome}
+use Rattle.end_run.specs.Steps.{all_told, tells}
+use Rattle.end_run.specs.Told.{Brings, GoesBy, IfNext, IsNext, MayCome}
 use Rattle.end_run.proofs.Doing.{Leads, runs_behind}
 use Rattle.end_run.proofs.Polling.{IsPolled, polled_as, polled_first, polled_on, polled_out, polled_over, polls}
 use Rattle.end_run.proofs.Stepping.{part_none}
@@ -29,7 +31,7 @@ comes_with (Some (first ∷ told)) after here later brings may =
     (brings.0, subst (λ (left : Option (List (List (Telling _)))). MayCome left later) brings.1 may)
 
 -- all that is told
-pub rest_told : {C : Type 0} → Option (List (List (Telling C))) → List (List (Telling C))
+abbrev pub rest_told : {C : Type 0} → Option (List (List (Telling C))) → List (List (Telling C))
 rest_told None = []
 rest_told (Some told) = told
 
@@ -128,6 +130,41 @@ module _ {S C : Type 0} (machine : Machine S C) (due : S → Option ℕ) (side :
       )
 
 -- ---- what has come
+
+module _ {C : Type 0} {here : List (Telling C)} {at : Telling C} {later : List (Telling C)} where
+  pub next_is : (more : Bool) → more ≡ true → IsNext here at later more → here ≡ at ∷ later
+  next_is true same is = is
+  next_is false same is = absurd (cc)
+
+  pub none_is : (more : Bool) → more ≡ false → IsNext here at later more → here ≡ []
+  none_is true same is = absurd (cc)
+  none_is false same is = is
+
+pub if_next : (more : Bool) (P : Type 0) → more ≡ true → IfNext more P → P
+if_next true P same holds = holds
+if_next false P same holds = absurd (cc)
+
+-- an end takes whatever is told that takes less
+pub takes_more :
+    {C : Type 0} (few all : C → Type 0) → ((command : C) → few command → all command)
+    → (at telling : Telling C) → telling ≡ at → IsTaken few at → IsTaken all telling
+takes_more few all each at telling same taken = subst (IsTaken all) (sym same) (go at taken)
+  where
+    go : (at : Telling _) → IsTaken few at → IsTaken all at
+    go (Tells command reply) taken = each command taken
+    go (Says text) taken = tt
+    go Stops taken = tt
+    go IsOther taken = tt
+
+-- what comes next is told first
+pub told_first :
+    {S C : Type 0} (machine : Machine S C) (side : Side) (now : ℕ) (here later : List (Telling C))
+    (at telling : Telling C) (s : S) → telling ≡ at → here ≡ at ∷ later
+    → all_told machine side now here s
+    ≡ and_more (tells machine side now telling s) (all_told machine side now later)
+told_first {S} {C} machine side now here later at telling s same is =
+    ap (λ (tellings : List (Telling C)). all_told machine side now tellings s) is
+    ∙ ap (λ (first : Telling C). and_more (tells machine side now first s) (all_told machine side now later)) (sym same)
 
 -- memory runs out before what is left
 pub leads_part :

@@ -3,7 +3,7 @@
 ghost use Rattle.std.specs.Prelude.{◌≡◌, ◌≢◌, ◌<◌, ◌^◌, IfOk, List, Option};
 ghost use Rattle.gl_base.specs.Events.{moment_after};
 ghost use Rattle.gl_base.specs.Link.{HasPollCause, IsToldAnswer, told_after_poll};
-ghost use Rattle.gl_base.specs.declared.link.LinkIn.TheVariants as link;
+ghost use Rattle.gl_base.specs.declared.link.LinkIn.TheVariants as answer;
 ghost use Rattle.end_run.specs.Acts.{MayAnswer};
 ghost use Rattle.end_run.specs.Commands.{IsTaken, Telling, is_any};
 ghost use Rattle.end_run.specs.Told.{Brings, IfNext, IsNext, telling_of};
@@ -47,7 +47,7 @@ pub trait Teller<L: Link> {
         ensures moment { L.moment link.new ≡ moment_after (L.moment link.old) result }
         ensures connected { L.connected link.new ≡ L.connected link.old }
         ensures cause { HasPollCause (L.health link.old) (L.health link.new) result }
-        ensures open { result ≢ link.Closed }
+        ensures open { result ≢ answer.Closed }
         ensures came { Brings (to_come self.old) (here self.new) (to_come self.new) };
 
     /// Goes to the next of what has come. Tells whether there is one.

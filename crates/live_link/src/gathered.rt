@@ -81,13 +81,25 @@ impl Gathered {
     pub(crate) fn fill<S: Read>(&mut self, from: &mut S) -> Look
         ensures { Keeps (S.remaining from.old) (prepend_known self.new (S.remaining from.new)) }
     {
-        self.clear();
+        match self.read(from) {
+            Ok(0) => Look::Ended,
+            Ok(_) => Look::Came,
+            Err(error) => look_of(&error),
+        }
+    }
+
+    // The same, and how many bytes it has given.
+    fn read<S: Read>(&mut self, from: &mut S) -> io::Result<usize>
+        ensures { Keeps (S.remaining from.old) (prepend_known self.new (S.remaining from.new)) }
+    {
+        self.taken = 0;
+        self.count = 0;
         match from.read(&mut self.bytes) {
             Ok(count) => {
                 self.count = count;
-                if count == 0 { Look::Ended } else { Look::Came }
+                Ok(count)
             }
-            Err(error) => look_of(&error),
+            Err(error) => Err(error),
         }
     }
 }

@@ -5,13 +5,16 @@ use Rattle.end_run.proofs.Joining.{did_none}
 use Rattle.end_run.proofs.Stepping.{short_fails, wrote_did}
 use Rattle.end_run.proofs.live.tell_one.Goals as goal
 
-pub returns-in-Text-Done-clause-runs : goal.returns-in-Text-Done-clause-runs
-returns-in-Text-Done-clause-runs g c =
-    λ known. ((refl, wrote_did _ _ _ [] c.in-Text.text.now c.in-Text-Done.ensures), known, refl)
+pub returns-in-Command-clause-runs : goal.returns-in-Command-clause-runs
+returns-in-Command-clause-runs g c = λ known. rw c.in-Command.is (c.step_end.ensures.runs known)
 
-pub returns-in-Text-Failed-clause-runs : goal.returns-in-Text-Failed-clause-runs
-returns-in-Text-Failed-clause-runs g c =
-    λ known. (None, known, short_fails _ _ _ [] c.in-Text.text.now [] c.in-Text-Failed.ensures)
+pub returns-in-Done-clause-runs : goal.returns-in-Done-clause-runs
+returns-in-Done-clause-runs g c =
+    λ known. rw c.in-Text.is ((refl, wrote_did _ _ _ [] c.in-Text.text.now c.in-Done.ensures), known, refl)
+
+pub returns-in-Failed-clause-runs : goal.returns-in-Failed-clause-runs
+returns-in-Failed-clause-runs g c =
+    λ known. rw c.in-Text.is (None, known, short_fails _ _ _ [] c.in-Text.text.now [] c.in-Failed.ensures)
 
 pub returns-in-Stop-clause-runs : goal.returns-in-Stop-clause-runs
-returns-in-Stop-clause-runs g c = λ known. (None, known, (refl, did_none _))
+returns-in-Stop-clause-runs g c = λ known. rw c.in-Stop.is (None, known, (refl, did_none _))
