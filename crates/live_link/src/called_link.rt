@@ -242,3 +242,98 @@ fn faults_of(before: u64, answer: LinkIn) -> u64
         LinkIn::Char(_, _) | LinkIn::Quiet(_) | LinkIn::Closed => before,
     }
 }
+
+#[cfg(test)]
+mod tests {
+    use super::*;
+    use std::net::TcpStream;
+    use std::test::Fail;
+
+    // The next character that comes.
+    fn next_character<R: Net + Clock>(link: &mut CalledLink<R>) -> Option<u8> {
+        for _ in 0..100 {
+            match link.poll(9_000) {
+                LinkIn::Char(character, _) => return Some(character),
+                // (news of the line)
+                LinkIn::Quiet(moment) if moment < 9_000 => {}
+                _ => return None,
+            }
+        }
+        None
+    }
+
+    // A link that listens, and where it does.
+    fn listening<R: Net + Clock + Drop>(
+        alloc: Global,
+        system: R,
+    ) -> Result<(CalledLink<R>, SocketAddr), Fail> {
+        let mut link = CalledLink::new(alloc, system)?;
+        let LinkAnswer::Done = link.connect(Side::Equipment, "127.0.0.1:0") else {
+            return Err(Fail::from("it doesn't listen"));
+        };
+        let Some(line) = &link.line else {
+            return Err(Fail::from("it has no line"));
+        };
+        let address = line.listener.local_addr()?;
+        Ok((link, address))
+    }
+
+    #[test]
+    fn callers_come_and_go(rt: HostRuntime) -> Result<(), Fail> {
+        let (mut link, address) = listening(rt.alloc(), &rt)?;
+        let mut none = LiveInput::ended(Nothing);
+        assert_eq!(rt; link.caller(), None);
+        assert_eq!(rt; link.send(b"lost"), LinkAnswer::Done);
+        assert!(rt; matches!(link.poll(20), LinkIn::Quiet(moment) if moment >= 20));
+
+        let mut first = TcpStream::connect(&rt, address)?;
+        first.write_all(b"ab")?;
+        assert_eq!(rt; next_character(&mut link), Some(b'a'));
+        assert_eq!(rt; link.caller(), Some(first.local_addr()?));
+
+        let mut second = TcpStream::connect(&rt, address)?;
+        assert_eq!(rt; next_character(&mut link), Some(b'b'));
+        assert!(rt; matches!(link.wait(&mut none, 9_000), LinkIn::Quiet(moment) if moment < 9_000));
+        assert_eq!(rt; link.caller(), Some(second.local_addr()?));
+        assert_eq!(rt; link.send(b"c"), LinkAnswer::Done);
+        let mut character = [0; 1];
+        second.read_exact(&mut character)?;
+        assert_eq!(rt; character, *b"c");
+        assert_eq!(rt; first.read(&mut character)?, 0);
+
+        drop(second);
+        assert!(rt; matches!(link.wait(&mut none, 9_000), LinkIn::Quiet(moment) if moment < 9_000));
+        assert_eq!(rt; link.caller(), None);
+        assert_eq!(rt; link.faults, 0);
+        Ok(())
+    }
+
+    #[test]
+    fn input_ends_a_wait(rt: HostRuntime) -> Result<(), Fail> {
+        let (mut link, _) = listening(rt.alloc(), &rt)?;
+        let listener = TcpListener::bind(&rt, "127.0.0.1:0")?;
+        let mut software = TcpStream::connect(&rt, listener.local_addr()?)?;
+        let (source, _) = listener.accept()?;
+        let mut input = LiveInput::new(source);
+
+        software.write_all(b"stop\n")?;
+        assert!(rt;
+            matches!(link.wait(&mut input, 9_000), LinkIn::Quiet(moment) if moment < 9_000)
+        );
+        assert_eq!(rt; input.came(), b"stop\n".as_slice());
+        assert!(rt; matches!(link.wait(&mut input, 1), LinkIn::Quiet(moment) if moment >= 1));
+        assert!(rt; input.came().is_empty());
+
+        drop(software);
+        assert!(rt;
+            matches!(link.wait(&mut input, 9_000), LinkIn::Quiet(moment) if moment < 9_000)
+        );
+        assert!(rt; input.has_ended());
+        let later = link.moment.min(60_000) + 20;
+        assert!(rt;
+            matches!(link.wait(&mut input, later), LinkIn::Quiet(moment) if moment >= later)
+        );
+        assert_eq!(rt; input.faults(), 0);
+        Ok(())
+    }
+}

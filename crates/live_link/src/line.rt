@@ -26,7 +26,7 @@ struct Peer<S> {
 /// Where peers call, the one that has called last and is still there, and when all of it began.
 #[derive(Drop)]
 pub(crate) struct Line<L, S> {
-    listener: L,
+    pub(crate) listener: L,
     peer: Option<Peer<S>>,
     watch: Watch,
     start: Instant,
