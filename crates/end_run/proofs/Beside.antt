@@ -131,14 +131,11 @@ module _ {S C : Type 0} (machine : Machine S C) (due : S → Option ℕ) (side :
 
 -- ---- what has come
 
-module _ {C : Type 0} {here : List (Telling C)} {at : Telling C} {later : List (Telling C)} where
-  pub next_is : (more : Bool) → more ≡ true → IsNext here at later more → here ≡ at ∷ later
-  next_is true same is = is
-  next_is false same is = absurd (cc)
-
-  pub none_is : (more : Bool) → more ≡ false → IsNext here at later more → here ≡ []
-  none_is true same is = absurd (cc)
-  none_is false same is = is
+pub next_is :
+    {C : Type 0} {here later : List (Telling C)} {at : Telling C} (more : Bool) → more ≡ true
+    → IsNext here at later more → here ≡ at ∷ later
+next_is true same is = is
+next_is false same is = absurd (cc)
 
 pub if_next : (more : Bool) (P : Type 0) → more ≡ true → IfNext more P → P
 if_next true P same holds = holds
