@@ -50,7 +50,7 @@ lines-alone (Polls until answer early ∷ acts) so =
     lines-alone acts so.1 ∙ ap text_of (sym (append-nil (log_of acts)))
 lines-alone (Writes entries text ∷ acts) so =
     ap (λ (t : List ℕ). t ++ lines_of acts)
-    (so.0.2.0 ∙ ap (λ (reply : List ℕ). text_of entries ++ reply) so.0.2.1 ∙ append-nil (text_of entries))
+    (so.0.1 ∙ ap (λ (reply : List ℕ). text_of entries ++ reply) so.0.2 ∙ append-nil (text_of entries))
     ∙ ap (λ (t : List ℕ). text_of entries ++ t) (lines-alone acts so.1)
     ∙ sym (text_of-append (log_of acts) entries)
 lines-alone (Sends characters ∷ acts) so = lines-alone acts so.1 ∙ ap text_of (sym (append-nil (log_of acts)))
