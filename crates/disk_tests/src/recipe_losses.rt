@@ -287,3 +287,42 @@ fn each_call_of_a_deletion_may_be_the_last(rt: HostRuntime) -> Result<(), Fail> 
     }
     Ok(())
 }
+
+// How many calls the two openings of four slots make, three of them open and then two, with the looks and deletions.
+const IN_TURN: u32 = 2 * (1 + 1 + 4 + 4 + 4 + 1 + 2);
+
+// Ag, Au and Cu in a store from which Au and then Cu are deleted, stopped at a call of the openings or the deletions.
+fn deleted_in_turn(alloc: Global, call: u32) -> Option<MemDisk> {
+    let Some(mut disk) = filled(alloc, 4, &[*b"Ag", *b"Au", *b"Cu"]) else {
+        return None;
+    };
+    disk.stop_at(call);
+    let (_, disk) = delete(disk, b"Au");
+    Some(delete(disk, b"Cu").1)
+}
+
+// Whether these deletions, if they stop at a call, leave Ag, and Au only beside Cu.
+fn deletions_keep(alloc: Global, call: u32, choice: CutChoice) -> bool {
+    let Some(disk) = deleted_in_turn(alloc, call) else {
+        return false;
+    };
+    let Ok(cut) = disk.cut(alloc, choice) else {
+        return false;
+    };
+    let (gone, cut) = has(alloc, cut, b"Au", None);
+    let (there, cut) = has(alloc, cut, b"Cu", Some(b"Cu".as_slice()));
+    disk.stopped() == (call <= IN_TURN)
+        && (gone || there)
+        && has(alloc, cut, b"Ag", Some(b"Ag".as_slice())).0
+}
+
+#[test]
+fn deletions_are_done_in_turn(rt: HostRuntime) -> Result<(), Fail> {
+    let alloc = rt.alloc();
+    for call in 1..IN_TURN + 2 {
+        for choice in &CHOICES {
+            assert!(rt; deletions_keep(alloc, call, *choice));
+        }
+    }
+    Ok(())
+}
