@@ -6,9 +6,17 @@ mod each_call;
 #[cfg(test)]
 mod floors;
 #[cfg(test)]
+mod full_recipes;
+#[cfg(test)]
 mod list_works;
 #[cfg(test)]
 mod memory_disk;
+#[cfg(test)]
+mod recipe_files;
+#[cfg(test)]
+mod recipe_losses;
+#[cfg(test)]
+mod recipe_store;
 #[cfg(test)]
 mod recipes;
 #[cfg(test)]

@@ -130,3 +130,41 @@ pub trait RecipeKeeper {
     ghost fits: { (keeper : Self) (recipes : Recipes) → sound keeper → told keeper ≡ Some recipes →
         RecipesFit (slots keeper) recipes };
 }
+
+impl<K: RecipeKeeper> RecipeKeeper for &mut K {
+    ghost told = { λ keeper. K.told keeper.now };
+
+    ghost slots = { λ keeper. K.slots keeper.now };
+
+    ghost offers_is = { λ keeper. K.offers_is keeper.now };
+
+    ghost sound = { λ keeper. K.sound keeper.now };
+
+    ghost faults = { λ keeper. K.faults keeper.now };
+
+    ghost fits = { λ keeper recipes sound is. K.fits keeper.now recipes sound is };
+
+    fn offers(&self) -> bool {
+        (**self).offers()
+    }
+
+    fn room(&mut self, name: &[u8]) -> RecipePut {
+        (**self).room(name)
+    }
+
+    fn put(&mut self, name: &[u8], body: &[u8]) -> RecipePut {
+        (**self).put(name, body)
+    }
+
+    fn get(&mut self, alloc: Global, name: &[u8]) -> RecipeGet {
+        (**self).get(alloc, name)
+    }
+
+    fn delete(&mut self, name: &[u8]) -> RecipeDrop {
+        (**self).delete(name)
+    }
+
+    fn names(&mut self, alloc: Global) -> RecipeNames {
+        (**self).names(alloc)
+    }
+}

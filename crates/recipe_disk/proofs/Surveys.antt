@@ -143,6 +143,29 @@ module _ (slots : ℕ) (s : Story) (rests : Rests slots s) where
     pub known : contains_key (recipes_in s.now.bytes) name ≡ is_some found
     known = known_by found refl
 
+  -- any slot that is open and has the name is the one
+  pub named_here : (name : List ℕ) (q : ℕ) → q < slots → (is_open (S q) && bytes_eq (name_of (S q)) name) ≡ true → named_at S name slots ≡ Some q
+  named_here name q below here = by (named_at S name slots) refl
+    where
+      both : (is_open (S q) ≡ true) × (bytes_eq (name_of (S q)) name ≡ true)
+      both = and_parts (is_open (S q)) (bytes_eq (name_of (S q)) name) here
+
+      named : name_of (S q) ≡ name
+      named = names_agree (name_of (S q)) name both.1
+
+      by : (place : Option ℕ) → named_at S name slots ≡ place → place ≡ Some q
+      by None none = absurd (nameless name None (sym none) none q below both.0 named)
+      by (Some p) at =
+          let there = slot_there name (Some p) (sym at) p at in
+          ap Some (rests.tidy p q there.0 below there.1 both.0 (there.2 ∙ sym named))
+
+  pub named_found : (name : List ℕ) (found : Option ℕ) (q : ℕ) → found ≡ Some q → IfSome found (λ k. k < slots) →
+      IfSome found (λ k. (is_open (S k) && bytes_eq (name_of (S k)) name) ≡ true) → found ≡ named_at S name slots
+  named_found name found q is below here =
+      is
+      ∙ sym (named_here name q (subst (λ (o : Option ℕ). IfSome o (λ k. k < slots)) is below)
+      (subst (λ (o : Option ℕ). IfSome o (λ k. (is_open (S k) && bytes_eq (name_of (S k)) name) ≡ true)) is here))
+
 module _ (slots : ℕ) (s : Story) (rests : Rests slots s) (two : 2 ≤ slots) (name : List ℕ) (survey : Survey) (is : IsSurvey (slot_in s.now.bytes) name slots survey) where
   abbrev T : ℕ → RecipeSlot
   T = slot_in s.now.bytes

@@ -9,8 +9,9 @@ ghost use Rattle.recipe_disk.specs.Listing.{get_answer, names_answer};
 ghost use Rattle.recipe_disk.specs.Opening.{IsReady, ready_fits};
 ghost use Rattle.recipe_disk.specs.Reading.{HasLooked, put_answer_of};
 
+use crate::buckets::{Buckets, move_slot, remove_slot};
 use crate::head::BODY_MOST;
-use crate::hints::Hints;
+use crate::hints::{Hints, fingerprint};
 use crate::listing::{read_body, read_names};
 use crate::reading::DiskFailed;
 use crate::recipe_disk::RecipeDisk;
@@ -21,14 +22,20 @@ use gem_recipes::{RecipeDrop, RecipeGet, RecipeKeeper, RecipeNames, RecipePut};
 use std::alloc::Global;
 
 // Whether there is space for a recipe of this name.
-fn room_for<D: Disk>(disk: &mut D, hints: &Hints, slots: u32, name: &[u8]) -> RecipePut
+fn room_for<D: Disk>(
+    disk: &mut D,
+    hints: &Hints,
+    buckets: &Buckets,
+    slots: u32,
+    name: &[u8],
+) -> RecipePut
     requires name { IsPpid name.now }
     requires kept { IsKept D.Disk disk.old slots }
     requires known { KnowsSlots (D.told disk.old) slots hints.now }
     ensures answer { AnswersRoom slots name.now (recipes_told (D.told disk.old)) result }
     ensures looked { HasLooked D.Disk disk.old disk.new (put_answer_of result) }
 {
-    match look_over(disk, hints, slots, name) {
+    match look_over(disk, hints, buckets, slots, name) {
         Ok(survey) => match survey.place(slots) {
             Some(_) => RecipePut::Stored,
             None => RecipePut::NoSpace,
@@ -41,6 +48,7 @@ fn room_for<D: Disk>(disk: &mut D, hints: &Hints, slots: u32, name: &[u8]) -> Re
 fn put_on<D: Disk>(
     disk: &mut D,
     hints: &mut Hints,
+    buckets: &mut Buckets,
     slots: u32,
     name: &[u8],
     body: &[u8],
@@ -54,7 +62,7 @@ fn put_on<D: Disk>(
     if body.len() > BODY_MOST {
         return RecipePut::TooLong;
     }
-    let survey = match look_over(disk, hints, slots, name) {
+    let survey = match look_over(disk, hints, buckets, slots, name) {
         Ok(survey) => survey,
         Err(DiskFailed) => return RecipePut::Failed,
     };
@@ -68,20 +76,30 @@ fn put_on<D: Disk>(
         body,
     };
     match replace(disk, hints, slot, survey.found, &recipe) {
-        DiskAnswer::Done => RecipePut::Stored,
+        DiskAnswer::Done => {
+            move_slot(buckets, fingerprint(name), survey.found, slot);
+            RecipePut::Stored
+        }
         DiskAnswer::Failed => RecipePut::Failed,
     }
 }
 
 // The body of a recipe.
-fn get_on<D: Disk>(disk: &mut D, hints: &Hints, alloc: Global, slots: u32, name: &[u8]) -> RecipeGet
+fn get_on<D: Disk>(
+    disk: &mut D,
+    hints: &Hints,
+    buckets: &Buckets,
+    alloc: Global,
+    slots: u32,
+    name: &[u8],
+) -> RecipeGet
     requires name { IsPpid name.now }
     requires kept { IsKept D.Disk disk.old slots }
     requires known { KnowsSlots (D.told disk.old) slots hints.now }
     ensures answer { AnswersGet name.now (recipes_told (D.told disk.old)) result }
     ensures looked { HasLooked D.Disk disk.old disk.new (get_answer result) }
 {
-    match find(disk, hints, slots, name) {
+    match find(disk, hints, buckets, slots, name) {
         Ok(found) => match found {
             Some(slot) => read_body(disk, alloc, slot),
             None => RecipeGet::Unknown,
@@ -91,14 +109,20 @@ fn get_on<D: Disk>(disk: &mut D, hints: &Hints, alloc: Global, slots: u32, name:
 }
 
 // Deletes a recipe, if there is one.
-fn delete_on<D: Disk>(disk: &mut D, hints: &mut Hints, slots: u32, name: &[u8]) -> RecipeDrop
+fn delete_on<D: Disk>(
+    disk: &mut D,
+    hints: &mut Hints,
+    buckets: &mut Buckets,
+    slots: u32,
+    name: &[u8],
+) -> RecipeDrop
     requires name { IsPpid name.now }
     requires kept { IsKept D.Disk disk.old slots }
     requires known { KnowsSlots (D.told disk.old) slots hints.old }
     ensures done { DeletesOn D.Disk disk.old disk.new slots name.now result }
     ensures known { KnowsUnless (delete_failed result) (D.told disk.new) slots hints.new }
 {
-    let found = match find(disk, hints, slots, name) {
+    let found = match find(disk, hints, buckets, slots, name) {
         Ok(found) => found,
         Err(DiskFailed) => return RecipeDrop::Failed,
     };
@@ -107,7 +131,10 @@ fn delete_on<D: Disk>(disk: &mut D, hints: &mut Hints, slots: u32, name: &[u8]) 
         None => return RecipeDrop::Unknown,
     };
     match close_slot(disk, hints, slot) {
-        DiskAnswer::Done => RecipeDrop::Dropped,
+        DiskAnswer::Done => {
+            remove_slot(buckets, fingerprint(name), slot);
+            RecipeDrop::Dropped
+        }
         DiskAnswer::Failed => RecipeDrop::Failed,
     }
 }
@@ -149,9 +176,9 @@ fn have_names_failed(answer: &RecipeNames) -> bool
     }
 }
 
-/// Each call but `offers` looks for what it is asked for first, which is reads alone, of all slots for `names`, and else
-/// of those whose hints have the fingerprint of the name; where it changes nothing, it makes no other call of the disk. A
-/// fault of the disk is its only fault, and behind one it can't be asked any more.
+/// Each call but `offers` looks for what it is asked for first, which is reads alone: of all slots for `names`, and else
+/// of those whose hints have the fingerprint of the name. Where it changes nothing, it makes no other call of the disk.
+/// A fault of the disk is its only fault, and behind one it can't be asked any more.
 impl<D: Disk> RecipeKeeper for RecipeDisk<D> {
     ghost told = { λ v. recipes_told (D.told v.disk) };
 
@@ -180,7 +207,7 @@ impl<D: Disk> RecipeKeeper for RecipeDisk<D> {
             (D.health self.new.disk).faults }
         ensures looked { HasLooked D.Disk self.old.disk self.new.disk (put_answer_of result) }
     {
-        let answer = room_for(&mut self.disk, &self.hints, self.slots, name);
+        let answer = room_for(&mut self.disk, &self.hints, &self.buckets, self.slots, name);
         self.failed = has_put_failed(answer);
         answer
     }
@@ -200,7 +227,14 @@ impl<D: Disk> RecipeKeeper for RecipeDisk<D> {
             (D.health self.new.disk).faults }
         ensures done { PutsOn D.Disk self.old.disk self.new.disk self.old.slots name.now body.now result }
     {
-        let answer = put_on(&mut self.disk, &mut self.hints, self.slots, name, body);
+        let answer = put_on(
+            &mut self.disk,
+            &mut self.hints,
+            &mut self.buckets,
+            self.slots,
+            name,
+            body,
+        );
         self.failed = has_put_failed(answer);
         answer
     }
@@ -216,7 +250,14 @@ impl<D: Disk> RecipeKeeper for RecipeDisk<D> {
             (D.health self.new.disk).faults }
         ensures looked { HasLooked D.Disk self.old.disk self.new.disk (get_answer result) }
     {
-        let answer = get_on(&mut self.disk, &self.hints, alloc, self.slots, name);
+        let answer = get_on(
+            &mut self.disk,
+            &self.hints,
+            &self.buckets,
+            alloc,
+            self.slots,
+            name,
+        );
         self.failed = has_get_failed(&answer);
         answer
     }
@@ -234,7 +275,13 @@ impl<D: Disk> RecipeKeeper for RecipeDisk<D> {
             (D.health self.new.disk).faults }
         ensures done { DeletesOn D.Disk self.old.disk self.new.disk self.old.slots name.now result }
     {
-        let answer = delete_on(&mut self.disk, &mut self.hints, self.slots, name);
+        let answer = delete_on(
+            &mut self.disk,
+            &mut self.hints,
+            &mut self.buckets,
+            self.slots,
+            name,
+        );
         self.failed = has_delete_failed(answer);
         answer
     }

@@ -1,6 +1,7 @@
 //! The recipes on a disk that can lose power: a file of slots, a recipe a slot.
 #![tactic(auto)]
 
+mod buckets;
 mod format;
 mod front;
 mod head;

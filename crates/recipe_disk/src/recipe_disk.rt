@@ -4,6 +4,7 @@ ghost use Rattle.std.specs.Prelude.{◌≡◌, ◌≤◌, false};
 ghost use Rattle.recipe_disk.specs.Opening.{FormatsRecipes, OpensRecipes};
 ghost use Rattle.recipe_disk.specs.Slot.{slot_place as place_of};
 
+use crate::buckets::{Buckets, buckets_of, empty_buckets};
 use crate::format::write_empty;
 use crate::hints::{Hints, shut_hints};
 use crate::reading::Reading;
@@ -14,8 +15,8 @@ use spool_file::NotSpool;
 use std::marker::Model;
 
 /// Recipes on a disk, each in a slot of a file. One slot stays free, in which the successor of a recipe is written
-/// before the old one goes, so a loss of power leaves either of them. A hint of each slot, 64 KiB for all, lies in the
-/// value itself.
+/// before the old one goes, so a loss of power leaves either of them. Hints of the slots and buckets of these, 80 KiB
+/// in all, lie in the value itself, so that none of its calls but `get` and `names` takes memory: it is best lent.
 #[derive(Debug, Drop)]
 pub struct RecipeDisk<D: Disk> {
     pub(crate) disk: D,
@@ -24,6 +25,7 @@ pub struct RecipeDisk<D: Disk> {
     pub(crate) failed: bool,
     // of each slot, unless a call has failed
     pub(crate) hints: Hints,
+    pub(crate) buckets: Buckets,
 }
 
 impl<D: Disk> Model for RecipeDisk<D> {
@@ -63,6 +65,7 @@ impl<D: Disk> RecipeDisk<D> {
                 slots,
                 failed: false,
                 hints: shut_hints::<4096>(),
+                buckets: empty_buckets(),
             }),
             DiskAnswer::Failed => Err(disk),
         }
@@ -91,6 +94,7 @@ impl<D: Disk> RecipeDisk<D> {
                 disk,
                 slots,
                 failed: false,
+                buckets: buckets_of(&hints, slots),
                 hints,
             }),
             DiskAnswer::Failed => Err(RecipeOpening::Failed(disk)),

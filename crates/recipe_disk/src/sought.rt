@@ -1,11 +1,12 @@
 //! What is looked for among the open slots of a file. Only slots are read whose hints tell that they may be such ones.
 
-ghost use Rattle.std.specs.Prelude.{◌≡◌, ◌+◌, ◌≤◌, ◌&&◌};
+ghost use Rattle.std.specs.Prelude.{◌≡◌, ◌+◌, ◌≤◌, ◌&&◌, true, IfSome};
 ghost use Rattle.recipe_disk.specs.Hints.{IsBelow, KnowsSlots, first_there, hint_in, is_there, may_be as may, sought_print as print_in};
 ghost use Rattle.recipe_disk.specs.Map.{any_below};
 ghost use Rattle.recipe_disk.specs.Reading.{HasLooked, SaysOf, is_sought as seeks, look_answer};
 ghost use Rattle.recipe_disk.specs.Slot.{head_in, slot_place as place_of};
 
+use crate::buckets::Bucket;
 use crate::head::{Head, name_of, read_head};
 use crate::hints::{Hint, Hints, fingerprint, hint_at};
 use crate::reading::DiskFailed;
@@ -79,6 +80,40 @@ fn is_sought_at<D: Disk>(
         Ok(head) => Ok(is_sought(sought, &head)),
         Err(DiskFailed) => Err(DiskFailed),
     }
+}
+
+/// One of the slots of a bucket that is open and such a one.
+pub fn one_sought<D: Disk>(
+    disk: &mut D,
+    hints: &Hints,
+    slots: u32,
+    bucket: &Bucket,
+    sought: Sought<'_>,
+) -> Result<Option<u32>, DiskFailed>
+    requires within { place_of slots ≤ D.size_is disk.old }
+    requires most { slots ≤ 4096 }
+    requires known { KnowsSlots (D.told disk.old) slots hints.now }
+    ensures found { SaysOf (D.told disk.old)
+        (λ bytes found. IfSome found (λ k. is_there sought.entry bytes k ≡ true)) result }
+    ensures below { IsBelow slots result }
+    ensures looked { HasLooked D.Disk disk.old disk.new (look_answer result) }
+{
+    let print = sought_print(sought);
+    for place in bucket {
+        let slot = *place as u32;
+        if slot < slots {
+            let hint = hint_at(hints, slot);
+            match is_sought_at(disk, slot, hint, sought, print) {
+                Ok(found) => {
+                    if found {
+                        return Ok(Some(slot));
+                    }
+                }
+                Err(DiskFailed) => return Err(DiskFailed),
+            }
+        }
+    }
+    Ok(None)
 }
 
 /// The first one of the first slots that is open and such a one.

@@ -8,10 +8,11 @@ ghost use Rattle.recipe_disk.specs.Reading.{HasLooked, SaysOf, look_answer};
 ghost use Rattle.recipe_disk.specs.Slot.{RecipeSlot, slot_in};
 ghost use Rattle.recipe_disk.specs.Survey.{HasFields, IsSurvey, SurveyFits, named_at, place_for};
 
+use crate::buckets::{Buckets, bucket_of};
 use crate::head::NUMBERS;
-use crate::hints::{Hint, Hints, hint_at};
+use crate::hints::{Hint, Hints, fingerprint, hint_at};
 use crate::reading::DiskFailed;
-use crate::sought::{Sought, first_sought};
+use crate::sought::{Sought, first_sought, one_sought};
 use disk_base::Disk;
 
 /// What is known of some slots: the first one of a name, the first one that isn't open, how many recipes there are, and
@@ -106,6 +107,7 @@ fn survey_of(hints: &Hints, slots: u32, found: Option<u32>) -> Survey
 pub fn find<D: Disk>(
     disk: &mut D,
     hints: &Hints,
+    buckets: &Buckets,
     slots: u32,
     name: &[u8],
 ) -> Result<Option<u32>, DiskFailed>
@@ -115,13 +117,22 @@ pub fn find<D: Disk>(
     ensures below { IsBelow slots result }
     ensures looked { HasLooked D.Disk disk.old disk.new (look_answer result) }
 {
-    first_sought(disk, hints, slots, Sought::Name(name))
+    let sought = Sought::Name(name);
+    let bucket = bucket_of(buckets, fingerprint(name));
+    match one_sought(disk, hints, slots, bucket, sought) {
+        Ok(found) => match found {
+            Some(_) => Ok(found),
+            None => first_sought(disk, hints, slots, sought),
+        },
+        Err(DiskFailed) => Err(DiskFailed),
+    }
 }
 
 /// Looks over all slots.
 pub fn look_over<D: Disk>(
     disk: &mut D,
     hints: &Hints,
+    buckets: &Buckets,
     slots: u32,
     name: &[u8],
 ) -> Result<Survey, DiskFailed>
@@ -131,7 +142,7 @@ pub fn look_over<D: Disk>(
     ensures fits { SurveyFits slots result }
     ensures looked { HasLooked D.Disk disk.old disk.new (look_answer result) }
 {
-    match find(disk, hints, slots, name) {
+    match find(disk, hints, buckets, slots, name) {
         Ok(found) => Ok(survey_of(hints, slots, found)),
         Err(DiskFailed) => Err(DiskFailed),
     }
