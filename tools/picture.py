@@ -1,10 +1,9 @@
 """A story as a picture. A row has at most a note of either end and an arrow, and all texts stand on the lines of rows.
 An arrow goes across just below its text, and where it ends later it leans in the gutter beside the line that it leads
 to. No text stands there: so no arrow crosses one."""
-import re
 from xml.sax.saxutils import escape
 
-from story import OTHER, Item, header_name
+from story import OTHER, Item, header_name, spool_actives, spool_lengths
 
 SIZE, PITCH, GAP = 10, 16, 12       # of letters, from row to row, and before the first row of a moment
 WIDE = 0.602 * SIZE                 # a letter
@@ -17,10 +16,11 @@ COLOURS = {
     **dict.fromkeys(("t3", "t4", "duplicate", "unexpected", "foreign", "crowded", "stranger"), LATE),
     **dict.fromkeys(("spool", "storing", "stored", "leaving", "gone", "try"), SPOOL),
 }
-BOLD = ("power", "failed", "t3", "t4", "start", "slip")
+BOLD = ("power", "failed", "t3", "t4", "start", "slip", "closed")
 
 
 def short(text):
+    """The text in printable ASCII, cut where it is too long."""
     text = "".join(letter if " " <= letter <= "~" else "?" for letter in text)
     return text if len(text) <= MOST else text[:MOST - 1] + "\u2026"
 
@@ -30,23 +30,26 @@ def note_text(item):
     line = item.line
     if line.kind in ("sent", "rx") and len(line.words) > 2:
         return short(line.text.rpartition(" ")[0])
-    if line.kind == "slip" and re.fullmatch("([0-9A-F]{2}){13,}", line.words[-1]):
+    if line.kind == "slip":
         return short(f"slip {line.words[0]} {header_name(bytes.fromhex(line.words[-1])[1:11])}")
     header = line.header()
     return short(f"{line.kind} {header_name(header)}" if header else item.text)
 
 
 def mark(number):
+    """A number as it stands in the file."""
     return f"{number:.1f}".rstrip("0").rstrip(".")
 
 
 class Row:
+    """A line of the picture: its moment, a note of each side, and an arrow, which is pieces, or a deed."""
     def __init__(self, moment):
         self.moment, self.y = moment, 0
-        self.notes, self.arrow = {}, None       # by side; the pieces of the arrow, or a deed
+        self.notes, self.arrow = {}, None
 
 
 class Picture:
+    """The rows of a story, measured and drawn."""
     def __init__(self, items):
         self.items, self.rows, self.first, self.last = items, [], [], []    # the first and last row of each item
         self.eldest = {}        # the first piece of those that end at one place on one way
@@ -103,7 +106,7 @@ class Picture:
         self.bottom = y + 14
         notes = {side: [note_text(row.notes[side]) for row in self.rows if side in row.notes] for side in "EH"}
         middle = [text_of(row.arrow) for row in self.rows if row.arrow] + [" " * 16]
-        self.lengths = self.spool_lengths()
+        self.lengths = spool_lengths(self.items)
         self.most = max([length for _, length in self.lengths], default=0)
         has_spool = self.most or any(item.kind == "spool" for item in self.items)
         digits = len(str(self.most))
@@ -115,29 +118,10 @@ class Picture:
         self.note_x["H"] = self.x["H"] + 12
         self.width = self.note_x["H"] + max(wide(notes["H"] + [""]), 30) + 12
 
-    def spool_lengths(self):
-        """How many messages the spool has from each of these places on."""
-        lengths, length, cause = [], 0, None
-        for at, item in enumerate(self.items):
-            words = item.line.words if item.line else []
-            before = length
-            if item.side != "E" or not words:
-                continue
-            if item.kind == "start" and re.fullmatch("len=[0-9]+", words[0]):
-                length = int(words[0][4:])
-            elif item.kind == "stored":
-                length += 1
-            elif item.kind == "leaving":
-                cause = words[-1]
-            elif item.kind == "gone":
-                length = 0 if cause == "purged" else max(length - 1, 0)
-            if length != before:
-                lengths.append((at, length))
-        return lengths
-
     # The parts.
 
     def svg(self):
+        """The file."""
         width, height = mark(self.width), mark(self.bottom + 8)
         out = [f'<svg xmlns="http://www.w3.org/2000/svg" width="{width}pt" height="{height}pt" '
                f'viewBox="0 0 {width} {height}" font-family="DejaVu Sans Mono, Menlo, Consolas, monospace" '
@@ -159,6 +143,7 @@ class Picture:
         return [f'<path d="{"".join(ways)}" stroke="#e3e7eb"/>']
 
     def is_slip(self, piece):
+        """Whether it has come as a slip."""
         return piece.fate == "broken" and piece.end < len(self.items) and self.items[piece.end].kind == "slip"
 
     def place_y(self, piece):
@@ -193,6 +178,7 @@ class Picture:
         return points
 
     def arrows(self):
+        """The arrows, with crosses where they are lost or broken, and dots where they are changed."""
         out, crosses, marks = [], [], []
         for row in self.rows:
             deed = isinstance(row.arrow, Item)
@@ -241,20 +227,8 @@ class Picture:
 
     def spool(self):
         """A bar beside the tool's line, as wide as the spool is long, on a pale ground where the spool is active."""
-        right, bars, ground, since = self.x["E"] - 5, [], [], None
+        right, bars, ground = self.x["E"] - 5, [], spool_actives(self.items)
         unit = min(8, LANE / max(self.most, 1))
-        for at, item in enumerate(self.items):
-            words = item.line.words if item.line else []
-            if item.side != "E":
-                continue
-            starts_full = item.kind == "start" and re.fullmatch("len=0*[1-9][0-9]*", "".join(words[:1]))
-            if since is None and (words == ["ACTIVE"] or starts_full):
-                since = at
-            elif since is not None and (item.kind == "power" or words == ["INACTIVE"]):
-                ground.append((since, at))
-                since = None
-        if since is not None:
-            ground.append((since, None))
         for (at, length), (until, _) in zip(self.lengths, self.lengths[1:] + [(None, 0)]):
             if length:
                 bars.append((length * unit, at, until))
@@ -291,6 +265,7 @@ class Picture:
         return out + dots
 
     def dot(self, item, x, y):
+        """The sign of a note on its line."""
         colour = COLOURS.get(item.kind, SIDE[item.side])
         if item.kind in ("power", "failed", "slip"):
             shape = "M{0} {1}l8 8m0 -8l-8 8" if item.kind != "power" else "M{2} {3}l-5 7h6l-3 7l9 -9h-5l3 -5z"
@@ -304,6 +279,7 @@ class Picture:
         return f'<circle cx="{mark(x)}" cy="{mark(y)}" r="2.2" fill="{colour}"/>'
 
     def texts(self):
+        """All words, column by column."""
         tool, host, top = self.x["E"], self.x["H"], 34
         out = []
         for side, name in (("E", "tool"), ("H", "host")):
@@ -355,12 +331,17 @@ def grouped(pieces):
 
 
 def text_of(arrow):
-    return short(arrow.text if isinstance(arrow, Item) else " ".join(piece.name() for piece in arrow))
+    """The words on an arrow: what goes there, and whether it did before; or what the schedule does to it."""
+    if isinstance(arrow, Item):
+        return short(arrow.text)
+    return short(" ".join(piece.name() + (" again" if piece.is_again else "") for piece in arrow))
 
 
 def wide(texts):
+    """How wide the widest of these is."""
     return WIDE * max(len(text) for text in texts)
 
 
 def path(points):
+    """A way along these points."""
     return "".join(f"{'L' if at else 'M'}{mark(x)} {mark(y)}" for at, (x, y) in enumerate(points))

@@ -26,6 +26,7 @@ class Over(Exception):
 
 
 def read_schedule(name, text):
+    """The lines of a schedule, each with its number. One that is none is refused by it."""
     forms = ("to [EH] N", "settle", "wait N", "lose [EH] N", "change [EH] N B", "add [EH] B", "tool .+", "host .+",
              "cut N (old|new|fill B|first N)")
     form = "|".join(forms).replace("N", "[0-9]{1,10}").replace("B", "[0-9A-Fa-f]{2}")
@@ -52,6 +53,7 @@ class Replayed(Story):
         self.comms = {"E": "DISABLED", "H": "DISABLED"}
 
     def follow(self):
+        """The items of the story, by the events of the schedule."""
         try:
             for side in "EH":
                 self.take_line(side, "start")
@@ -68,10 +70,12 @@ class Replayed(Story):
         return self.items
 
     def misfit(self):
+        """Refuses the trace: it is of another schedule."""
         number = self.events[self.event][0] if self.event >= 0 else 0
         refuse(f"line {self.lines[self.next].number} of the trace isn't what the schedule brings by its line {number}")
 
     def happen(self, event):
+        """One line of the schedule."""
         kind, words = event[0], event[-1].split(" ")
         if kind == "cut":
             self.cut = " ".join(event)
@@ -97,6 +101,7 @@ class Replayed(Story):
         return None
 
     def take(self):
+        """Takes the next line of the trace; what it writes is on its way then."""
         line = self.lines[self.next]
         self.next += 1
         if line.kind == "comms":
@@ -113,6 +118,7 @@ class Replayed(Story):
         return line
 
     def take_line(self, side, kind):
+        """Takes the next line, which must be of this kind, unless the trace has ended."""
         line = self.peek(side)
         if self.next == len(self.lines):
             raise Over
@@ -128,10 +134,12 @@ class Replayed(Story):
         return kinds
 
     def is_next(self, side, *what):
+        """Whether this end writes one of these next."""
         line = self.peek(side)
         return bool(line) and any(line.starts_with(one) for one in what)
 
     def writes(self, side, *what):
+        """A step that may write one of these."""
         if self.is_next(side, *what):
             self.take()
 
@@ -204,6 +212,7 @@ class Replayed(Story):
         return None
 
     def do(self, side, words):
+        """A step with a command."""
         command = words[0]
         if command not in BEGINS:
             self.misfit()
@@ -244,6 +253,7 @@ class Replayed(Story):
                 self.gathered(side, got)
 
     def gathered(self, side, got):
+        """All characters of a frame have come: it is answered where its sum is right."""
         raw = bytes(byte for _, _, byte in got)
         if sum(raw[1:-2]) & 0xFFFF != int.from_bytes(raw[-2:], "big"):
             self.phase[side] = SETTLING
@@ -254,12 +264,14 @@ class Replayed(Story):
         self.answers(side, ACK)
 
     def may_lose_power(self, side):
+        """Ends the event where a cut has stopped this step."""
         line = self.peek(side)
         if self.cut and line and line.kind == "power":
             self.lose_power()
             raise Lost
 
     def lose_power(self):
+        """The power goes: the line is emptied both ways, and the tool starts anew."""
         self.take_line("E", "power")
         for piece in {char[0]: None for chars in self.way.values() for char in chars}:
             piece.ends(len(self.items) - 1, self.now, "lost")

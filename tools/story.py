@@ -10,9 +10,23 @@ CONTROLS = {ENQ: "ENQ", EOT: "EOT", ACK: "ACK", NAK: "NAK"}
 FRAME = "a frame"
 # The lines that have a block's header.
 HEADED = ("duplicate", "unexpected", "foreign", "toolong", "crowded", "t4")
+# The form of each line behind its moment, as docs/PROFILE.md has it.
+FORMS = (
+    "end", "E start len=N base=N", "H start", "E power", "X closed", "X sent NAME SYS BODY", "X rx NAME SYS BODY",
+    "X tx HEX", "X comms (DISABLED|WAIT-CRA|WAIT-DELAY|NOT-COMMUNICATING|COMMUNICATING)",
+    "E control (EQUIPMENT-OFF-LINE|ATTEMPT-ON-LINE|HOST-OFF-LINE|LOCAL|REMOTE)", "E spool (ACTIVE|INACTIVE)",
+    "E set N", "E event N N", "E alarm N (set|clear)", "E command .*", "E display N BODY", "E refused",
+    "E storing N NAME", "E stored N", "E leaving N (confirmed|purged|overwritten)", "E gone N", "E try N SYS",
+    "X (duplicate|unexpected|foreign|toolong|crowded|t4) HEADER", "X (failed|t3|stranger) NAME SYS",
+    "X (dropped|denied|discarded|toolong|full) NAME", "X slip (N|-) FRAME",
+)
+PARTS = {"X": "[EH]", "N": "[0-9]+", "NAME": "S[0-9]+F[0-9]+( W)?", "SYS": "[0-9A-F]{8}", "HEADER": "[0-9A-F]{20}",
+         "HEX": "([0-9A-F]{2})+", "FRAME": "([0-9A-F]{2}){13,}", "BODY": "(([0-9A-F]{2})+|-)"}
+FORM = re.compile("|".join(re.sub(r"\b[A-Z]+\b", lambda part: PARTS.get(part[0], part[0]), form) for form in FORMS))
 
 
 def refuse(text):
+    """Ends with this on standard error, and the status 1."""
     sys.exit(f"ladder: {text}")
 
 
@@ -22,16 +36,12 @@ class Line:
     def __init__(self, number, moment, side, text):
         self.number, self.moment, self.side, self.text = number, moment, side, text
         self.kind, *self.words = text.split(" ")
-        self.raw = b""
-        if self.kind == "tx" and re.fullmatch("([0-9A-F]{2})+", " ".join(self.words)):
-            self.raw = bytes.fromhex(self.words[0])
-        elif self.kind == "tx":
-            self.kind = "unknown"
+        self.raw = bytes.fromhex(self.words[0]) if self.kind == "tx" else b""
 
     def header(self):
-        """The header in the line, where it has one."""
-        word = self.words[-1] if self.words else ""
-        return bytes.fromhex(word) if self.kind in HEADED and re.fullmatch("[0-9A-F]{20}", word) else None
+        """The header in the line, where it has one: `toolong` has it of a block, and a name of a message."""
+        is_headed = self.kind in HEADED and re.fullmatch(PARTS["HEADER"], self.words[0])
+        return bytes.fromhex(self.words[0]) if is_headed else None
 
     def tells_block(self):
         """Whether it tells of a block that has come."""
@@ -48,17 +58,18 @@ class Line:
 
 
 def read_trace(name, text):
+    """The lines of a trace. One that is none is refused by its number."""
     lines = []
     for number, line in enumerate(text.split("\n"), 1):
         if not line:
             continue
-        form = re.fullmatch("([0-9]+) (?:([EH]) (.*)|end)", line)
-        if not form:
-            refuse(f"{name}, line {number}: no moment and no end, or nothing behind them: {line[:40]!r}")
-        moment = int(form[1])
-        if lines and (lines[-1].text == "end" or moment < lines[-1].moment):
+        moment, _, rest = line.partition(" ")
+        if not re.fullmatch("[0-9]+", moment) or not FORM.fullmatch(rest):
+            refuse(f"{name}, line {number}: this is no line of a trace: {line[:40]!r}")
+        if lines and (lines[-1].text == "end" or int(moment) < lines[-1].moment):
             refuse(f"{name}, line {number}: it can't follow the line before it")
-        lines.append(Line(number, moment, form[2], form[3] or "end"))
+        side, text = (None, rest) if rest == "end" else rest.split(" ", 1)
+        lines.append(Line(number, int(moment), side, text))
     return lines
 
 
@@ -70,6 +81,7 @@ def first_of(raw):
 
 
 def is_frame(raw):
+    """Whether these are all characters of a block, from its length to its sum."""
     return len(raw) == raw[0] + 3 > 12
 
 
@@ -82,24 +94,37 @@ class Piece:
         self.marks = []         # where some of them were lost, or one was changed
         self.end = self.moment = None   # where and when it has ended
         self.fate = None        # how: taken, lost, or broken, where it came and was no whole frame
+        self.blocks = None      # of how many blocks its message is, where a later one tells it
+        self.is_again = False   # whether this end's frame before it was the same
 
     def is_frame(self):
         return is_frame(self.raw)
 
     def ends(self, place, moment, fate):
+        """What has become of it, and where."""
         self.end, self.moment, self.fate = place, moment, fate
 
     def name(self):
+        """What it is: a message's block, or the characters."""
         if self.is_frame():
-            return header_name(self.raw[1:11])
+            return header_name(self.raw[1:11], self.blocks)
         return self.raw.hex().upper() if self.is_noise else CONTROLS.get(self.raw[0], self.raw.hex().upper())
 
 
-def header_name(header):
-    """What a header says: the message's name and system bytes, and the block where it isn't the only one."""
+def block_of(header):
+    """A block's number, and whether it is the last one of its message."""
+    return (header[4] & 127) << 8 | header[5], header[4] > 127
+
+
+def header_name(header, blocks=None):
+    """What a header says: the message's name and system bytes, and the block where it isn't the only one, of how many
+    where the last one tells it."""
     name = f"S{header[2] & 127}F{header[3]}{' W' if header[2] & 128 else ''} {header[6:10].hex().upper()}"
-    number, is_last = (header[4] & 127) << 8 | header[5], header[4] & 128
-    return name if is_last and number <= 1 else f"{name} block {number}{' E' if is_last else ''}"
+    number, is_last = block_of(header)
+    if is_last and number <= 1:
+        return name
+    blocks = number if is_last else blocks
+    return f"{name} block {number}{f'/{blocks}' if blocks else ''}"
 
 
 class Item:
@@ -116,20 +141,36 @@ class Story:
 
     def __init__(self, lines):
         self.lines, self.items, self.now = lines, [], 0
+        self.newest = {}        # the newest frame of each end
         self.frames = {side: [(at, line.raw) for at, line in enumerate(lines)
                               if line.side == side and line.starts_with(FRAME)] for side in "EH"}
+        self.blocks = {line: number for side in "EH" for line, number in self.counted(side)}
+
+    def counted(self, side):
+        """The lines with a frame of this end, each with the number of the last block of its message."""
+        counts = {}
+        for at, raw in reversed(self.frames[side]):
+            key, (number, is_last) = raw[1:5] + raw[7:11], block_of(raw[1:11])
+            if is_last:
+                counts[key] = number
+            yield self.lines[at], counts.get(key)
 
     def add(self, item):
+        """Adds an item; a clock of its moment in front of it is needless."""
         if self.items and self.items[-1].kind == "clock" and self.items[-1].moment == item.moment:
             self.items.pop()
         self.items.append(item)
         return item
 
     def add_line(self, line):
+        """Adds a line, with the pieces that it writes."""
         item = self.add(Item("tx" if line.raw else line.kind, line.moment, line.side, line.text, line))
         rest = line.raw
         while rest:
             piece = Piece(line.side, first_of(rest), len(self.items) - 1)
+            if piece.is_frame():
+                piece.blocks, piece.is_again = self.blocks.get(line), piece.raw == self.newest.get(line.side)
+                self.newest[line.side] = piece.raw
             item.pieces.append(piece)
             rest = rest[len(piece.raw):]
         return item
@@ -155,6 +196,7 @@ class Told(Story):
     """A piece is taken where the other end has answered it. What came before it on the same way has gone, too."""
 
     def follow(self):
+        """The items of the story, each piece with its fate."""
         way = {"E": [], "H": []}
         both = len({line.side for line in self.lines if line.side}) == 2
         begin = 0
@@ -204,3 +246,34 @@ class Told(Story):
             is_broken = piece.raw[0] == NAK and not piece.is_frame()
             fits[-1].ends(at, self.now, "broken" if is_broken else "taken")
         del way[:way.index(fits[-1]) + 1]
+
+
+def spool_lengths(items):
+    """How many messages the spool has from each of these places on."""
+    lengths, length, cause = [], 0, None
+    for at, item in enumerate(items):
+        before = length
+        if item.kind == "start" and item.side == "E":
+            length = int(item.line.words[0].removeprefix("len="))
+        elif item.kind == "stored":
+            length += 1
+        elif item.kind == "leaving":
+            cause = item.line.words[-1]
+        elif item.kind == "gone":
+            length = 0 if cause == "purged" else max(length - 1, 0)
+        if length != before:
+            lengths.append((at, length))
+    return lengths
+
+
+def spool_actives(items):
+    """From where to where the spool is active; the last one may have no end."""
+    spans, since = [], None
+    for at, item in enumerate(items):
+        words = item.line.words if item.line and item.side == "E" else []
+        if since is None and (words == ["ACTIVE"] or item.kind == "start" and words and words[0] != "len=0"):
+            since = at
+        elif since is not None and (item.kind == "power" or words == ["INACTIVE"]):
+            spans.append((since, at))
+            since = None
+    return spans if since is None else [*spans, (since, None)]
