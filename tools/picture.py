@@ -203,7 +203,8 @@ class Picture:
         return out
 
     def bands(self):
-        """A pale band for each message that is received, from the line that says it was sent to that one."""
+        """A pale band for each message that is received, from the line that says it was sent to that one. Those of a
+        side lie in one group, so that many, one over the other, are no darker than one."""
         sent, taken, ways = {}, {}, {"E": [], "H": []}
         for at, item in enumerate(self.items):
             for piece in item.pieces:
@@ -222,8 +223,11 @@ class Picture:
                     x = self.x[side] + (4 if side == "E" else -4)
                     top = (x, self.first[source].y - 3.5)
                     ways[side].append(path([top, (x, across[0][1]), *across[1:]]))
-        return [f'<path d="{way}" fill="none" stroke="{SIDE[side]}" stroke-width="5" stroke-opacity="0.2" '
-                f'stroke-linejoin="round"/>' for side in "EH" for way in ways[side]]
+        out = []
+        for side in "EH":
+            out += [f'<g fill="none" stroke="{SIDE[side]}" stroke-width="5" stroke-linejoin="round" opacity="0.2">',
+                    *(f'<path d="{way}"/>' for way in ways[side]), '</g>']
+        return out
 
     def spool(self):
         """A bar beside the tool's line, as wide as the spool is long, on a pale ground where the spool is active."""
