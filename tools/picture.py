@@ -165,8 +165,7 @@ class Picture:
         y, lean = start.y + 5, end - sign * GUTTER
         if piece.is_noise:
             begin = lean - sign * 24
-        points = [(begin, y), (lean, y)]
-        points += [(end - sign * GUTTER / 2, self.first[at].y + 5) for at in piece.marks]
+        points = [(begin, y), (lean, y), *((end - sign * GUTTER / 2, self.first[at].y + 5) for at in piece.marks)]
         if piece.fate in ("taken", "broken"):
             down = y if self.is_straight(piece) and piece.fate == "taken" else max(self.place_y(piece), points[-1][1])
             near = 7 if piece.fate == "broken" and not self.is_slip(piece) else 1
@@ -195,16 +194,13 @@ class Picture:
                     x, y = points[-1]
                     crosses.append(f"M{mark(x - 3.5)} {mark(y - 3.5)}l7 7m0 -7l-7 7")
                 marks += [f'<circle cx="{mark(x)}" cy="{mark(y)}" r="2.6"/>' for x, y in points[2:2 + len(piece.marks)]]
-        out = ['<g id="arrows" fill="none">', *out, '</g>']
+        out = ['<g id="arrows" fill="none">', *out, '</g>', f'<g fill="{RED}">', *marks, '</g>']
         if crosses:
             out.append(f'<path d="{"".join(crosses)}" stroke="{RED}" stroke-width="1.8" fill="none"/>')
-        if marks:
-            out += [f'<g fill="{RED}">', *marks, '</g>']
         return out
 
     def bands(self):
-        """A pale band for each message that is received, from the line that says it was sent to that one. Those of a
-        side lie in one group, so that many, one over the other, are no darker than one."""
+        """A pale band for each message that is received, from its line `sent` to that one; many are no darker."""
         sent, taken, ways = {}, {}, {"E": [], "H": []}
         for at, item in enumerate(self.items):
             for piece in item.pieces:
@@ -224,9 +220,10 @@ class Picture:
                     top = (x, self.first[source].y - 3.5)
                     ways[side].append(path([top, (x, across[0][1]), *across[1:]]))
         out = []
-        for side in "EH":
-            out += [f'<g fill="none" stroke="{SIDE[side]}" stroke-width="5" stroke-linejoin="round" opacity="0.2">',
-                    *(f'<path d="{way}"/>' for way in ways[side]), '</g>']
+        for side in ways:
+            out.append(f'<g class="bands" stroke="{SIDE[side]}" stroke-width="5" stroke-linejoin="round" fill="none" '
+                       'opacity="0.2">')
+            out += [*(f'<path d="{way}"/>' for way in ways[side]), '</g>']
         return out
 
     def spool(self):

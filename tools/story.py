@@ -100,6 +100,10 @@ class Piece:
     def is_frame(self):
         return is_frame(self.raw)
 
+    def is_answer(self):
+        """Whether it answers a block."""
+        return not self.is_frame() and self.raw[0] in (ACK, NAK)
+
     def ends(self, place, moment, fate):
         """What has become of it, and where."""
         self.end, self.moment, self.fate = place, moment, fate
@@ -185,6 +189,15 @@ class Story:
         behind = bisect_left(frames, (at, b""))
         return behind == len(frames) or behind > 0 and frames[behind][1] == frames[behind - 1][1]
 
+    def is_replied(self, side, at):
+        """Whether a reply to this end's newest message comes from this line on, before its next frame. It cancels the
+        message's block, so no line tells whether the ACK of that was lost."""
+        frames = self.frames[side]
+        behind = bisect_left(frames, (at, b""))
+        system = frames[behind - 1][1][7:11].hex().upper() if behind else None
+        return any(line.side == side and line.kind == "rx" and line.words[-2] == system
+                   for line in self.lines[at:frames[behind][0] if behind < len(frames) else None])
+
     def place(self):
         """The place of the next item. Where none has come at this moment, one is made."""
         if not self.items or self.items[-1].moment != self.now:
@@ -193,7 +206,8 @@ class Story:
 
 
 class Told(Story):
-    """A piece is taken where the other end has answered it. What came before it on the same way has gone, too."""
+    """A piece is taken where the other end has answered it. What came before it on the same way has gone, too. What no
+    line tells stays open."""
 
     def follow(self):
         """The items of the story, each piece with its fate."""
@@ -207,7 +221,7 @@ class Told(Story):
             if before.side != item.side or before.moment != item.moment or before.kind == "tx":
                 begin = at
             if line.tells_block():
-                self.hears(at, way[line.side])
+                self.hears(at, way[line.side], "broken" if line.kind == "slip" else "taken")
             if line.kind == "power" or not line.side:
                 for piece in way["E"] + way["H"]:
                     if piece.is_frame() and piece.end is None and both:
@@ -218,21 +232,22 @@ class Told(Story):
             way[OTHER.get(line.side, "E")] += item.pieces
         return self.items
 
-    def hears(self, at, way):
+    def hears(self, at, way, fate):
         """A block has come: the newest one on its way."""
         frames = [piece for piece in way if piece.is_frame()]
         if frames and frames[-1].end is None:
-            frames[-1].ends(at, self.now, "taken")
+            frames[-1].ends(at, self.now, fate)
 
     def answers(self, piece, begin, at, way, both):
         """This end has written a piece: what is taken of those on the way to it."""
         wanted = {ENQ: None, EOT: ENQ, ACK: FRAME, NAK: FRAME}.get(piece.raw[0] if not piece.is_frame() else None, EOT)
         if wanted is None:
-            is_heard = not self.is_again(piece.side, at)
-            for other in way:
-                if is_heard and other.raw[0] in (ACK, NAK) and not other.is_frame():
-                    other.ends(at, self.now, "taken")
-            way[:] = [other for other in way if other.end is None]
+            is_open = self.is_replied(piece.side, at)
+            if is_open or not self.is_again(piece.side, at):
+                for other in way:
+                    if other.is_answer() and not is_open:
+                        other.ends(at, self.now, "taken")
+                way[:] = [other for other in way if not other.is_answer()]
             return
         fits = [other for other in way if (FRAME if other.is_frame() else other.raw[0]) == wanted]
         if not fits:
@@ -240,7 +255,7 @@ class Told(Story):
         for other in way[:way.index(fits[-1])]:
             if other.is_frame() and both:
                 other.ends(other.at + 1, self.now, "lost")
-            elif other.raw[0] in (ACK, NAK):
+            elif other.is_answer() and not (piece.is_again and other.raw[0] == ACK):
                 other.ends(begin, self.now, "taken")
         if fits[-1].end is None:
             is_broken = piece.raw[0] == NAK and not piece.is_frame()
