@@ -1,5 +1,6 @@
 mod Causes
 mod Cuts
+pub mod Fitted
 pub mod Listings
 mod Logs
 mod Made

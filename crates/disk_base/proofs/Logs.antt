@@ -1,6 +1,8 @@
 -- The log of a disk in memory: its calls, and the bytes that they leave.
 use Rattle.std.proofs.Common.{◌≡◌, ℕ, zero, suc, ◌+◌, ◌≤◌, List, [], ◌∷◌, ◌++◌, length, take, drop, fold, refl, sym, ap, subst, ◌∙◌, arith, length-append}
-use Rattle.std.proofs.lemmas.List.{take_all, drop_all, take-append-le, drop-append-le, length-take-le}
+use Rattle.std.proofs.lemmas.List.{take_all, drop_all, take-append-le, drop-append-le, length-drop, length-take-le}
+use Rattle.std.proofs.lemmas.List.Sums.{sum_by-cons}
+use Rattle.disk_base.specs.Calls.{DiskCall, written_of}
 use Rattle.disk_base.specs.Log.{AreLogged, AreSized, AreWithin, call_of, calls_of, loose_after, loose_behind, loose_under}
 use Rattle.disk_base.specs.declared.log.LoggedCall.{LoggedCall}
 
@@ -36,6 +38,17 @@ calls_take (suc n) (entry ∷ entries) written = ap (λ calls. call_of entry (ta
 pub length-calls : (entries : List LoggedCall) (written : List ℕ) → length (calls_of entries written) ≡ length entries
 length-calls [] written = refl
 length-calls (entry ∷ entries) written = ap suc (length-calls entries _)
+
+-- the calls of a log write all of its bytes
+pub written_is : (size : ℕ) (entries : List LoggedCall) (written : List ℕ) → AreLogged size entries written →
+    written_of (calls_of entries written) ≡ length written
+written_is size [] written are = sym (ap length are)
+written_is size (entry ∷ entries) written are =
+    let front : length (take entry.count written) ≡ entry.count = length-take-le entry.count written are.0 in
+    let rest = written_is size entries (drop entry.count written) are.2 in
+    let behind = length-drop entry.count written in
+    sum_by-cons (λ (call : DiskCall). length call.bytes) (call_of entry (take entry.count written)) (calls_of entries (drop entry.count written))
+    ∙ omega (arith, front, rest, behind, are.0)
 
 -- the ranges of the calls are those of the log
 pub loose_same : (n m size : ℕ) (loose : List (ℕ × ℕ)) (entries : List LoggedCall) (written : List ℕ) → AreWithin size entries written →

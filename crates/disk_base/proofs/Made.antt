@@ -1,12 +1,13 @@
 -- What a call changes of a disk in memory.
-use Rattle.std.proofs.Common.{◌≡◌, ℕ, ◌+◌, ◌-◌, ◌≤◌, Bool, true, false, ◌||◌, ◌==◌, nat_le, nat_lt, List, [], ◌∷◌, ◌++◌, length, take, if◌then◌else◌, sym, ap, subst, ◌∙◌, arith, length-append, vec_capacity, vec_len, Option}
+use Rattle.std.proofs.Common.{◌≡◌, refl, ℕ, ◌+◌, ◌-◌, ◌<◌, ◌≤◌, Bool, true, false, not, ◌&&◌, ◌||◌, ◌==◌, nat_le, nat_lt, List, [], ◌∷◌, ◌++◌, length, take, if◌then◌else◌, sym, ap, subst, ◌∙◌, arith, length-append, vec_capacity, vec_len, Option}
+use Rattle.std.proofs.lemmas.Bool.Decides.{nat_tests}
 use Rattle.std.proofs.lemmas.List.{take_all, take-append-le}
-use Rattle.disk_base.specs.Calls.{DiskCall}
+use Rattle.disk_base.specs.Calls.{DiskCall, written_of}
 use Rattle.disk_base.specs.Kept.{IsMemDisk, IsSettled, disk_state, effective_calls}
 use Rattle.disk_base.specs.Log.{AreLogged, bytes_under, call_of, calls_of, settled_count, story_of}
 use Rattle.disk_base.specs.Listed.{next_story}
-use Rattle.disk_base.specs.MemDisk.{DiskState, answer_due, answer_planned, disk_size, after_call, after_entry, after_refusal, faults_after, is_full}
-use Rattle.disk_base.specs.Plan.{next_answer, next_plan}
+use Rattle.disk_base.specs.MemDisk.{DiskState, answer_due, answer_planned, disk_size, after_call, after_entry, after_refusal, faults_after, is_full, spare_if, spare_now}
+use Rattle.disk_base.specs.Plan.{next_answer, next_plan, stops_next}
 use Rattle.disk_base.specs.Story.{Story}
 use Rattle.disk_base.specs.declared.disk.CallKind.{CallKind}
 use Rattle.disk_base.specs.declared.disk.DiskAnswer.{DiskAnswer}
@@ -14,39 +15,47 @@ use Rattle.disk_base.specs.declared.disk.DiskAnswer.TheVariants.{Failed}
 use Rattle.disk_base.specs.declared.fault_plan.FaultPlan.{FaultPlan}
 use Rattle.disk_base.specs.declared.log.LoggedCall.{LoggedCall}
 use Rattle.disk_base.specs.declared.mem_disk.MemDisk.TheInside.{Inside}
-use Rattle.disk_base.proofs.Logs.{IsPushed, length-calls, pushed}
+use Rattle.disk_base.proofs.Logs.{IsPushed, length-calls, pushed, written_is}
 use Rattle.disk_base.proofs.Steps.{one_more_call, settled_on}
 
 -- the state with these fields
-abbrev state : Story → List DiskCall → ℕ → ℕ → ℕ → FaultPlan → ℕ → Option (List ℕ) → DiskState
-state story calls used most room plan faults file = record {
+abbrev state : Story → List DiskCall → ℕ → ℕ → ℕ → ℕ → ℕ × ℕ → FaultPlan → ℕ → Option (List ℕ) → DiskState
+state story calls made used most room spare plan faults file = record {
   story = story;
   calls = calls;
+  made = made;
   used = used;
   most = most;
   room = room;
+  spare = spare;
   plan = plan;
   faults = faults;
   file = file;
 }
 
-same_state : {s t : Story} {cs ds : List DiskCall} {u v m n r q : ℕ} {p o : FaultPlan} {f g : ℕ} {h k : Option (List ℕ)} → s ≡ t → cs ≡ ds →
-    u ≡ v → m ≡ n → r ≡ q → p ≡ o → f ≡ g → h ≡ k → state s cs u m r p f h ≡ state t ds v n q o g k
-same_state {s} {t} {cs} {ds} {u} {v} {m} {n} {r} {q} {p} {o} {f} {g} {h} {k} a b c d e i j l =
-    ap (λ (x : Story). state x cs u m r p f h) a
-    ∙ ap (λ (x : List DiskCall). state t x u m r p f h) b
-    ∙ ap (λ (x : ℕ). state t ds x m r p f h) c
-    ∙ ap (λ (x : ℕ). state t ds v x r p f h) d
-    ∙ ap (λ (x : ℕ). state t ds v n x p f h) e
-    ∙ ap (λ (x : FaultPlan). state t ds v n q x f h) i
-    ∙ ap (λ (x : ℕ). state t ds v n q o x h) j
-    ∙ ap (λ (x : Option (List ℕ)). state t ds v n q o g x) l
+same_state : {s t : Story} {cs ds : List DiskCall} {a b u v m n r q : ℕ} {w x : ℕ × ℕ} {p o : FaultPlan} {f g : ℕ} {h k : Option (List ℕ)} →
+    s ≡ t → cs ≡ ds → a ≡ b → u ≡ v → m ≡ n → r ≡ q → w ≡ x → p ≡ o → f ≡ g → h ≡ k →
+    state s cs a u m r w p f h ≡ state t ds b v n q x o g k
+same_state {s} {t} {cs} {ds} {a} {b} {u} {v} {m} {n} {r} {q} {w} {x} {p} {o} {f} {g} {h} {k} story calls made used most room spare plan faults file =
+    ap (λ (y : Story). state y cs a u m r w p f h) story
+    ∙ ap (λ (y : List DiskCall). state t y a u m r w p f h) calls
+    ∙ ap (λ (y : ℕ). state t ds y u m r w p f h) made
+    ∙ ap (λ (y : ℕ). state t ds b y m r w p f h) used
+    ∙ ap (λ (y : ℕ). state t ds b v y r w p f h) most
+    ∙ ap (λ (y : ℕ). state t ds b v n y w p f h) room
+    ∙ ap (λ (y : ℕ × ℕ). state t ds b v n q y p f h) spare
+    ∙ ap (λ (y : FaultPlan). state t ds b v n q x y f h) plan
+    ∙ ap (λ (y : ℕ). state t ds b v n q x o y h) faults
+    ∙ ap (λ (y : Option (List ℕ)). state t ds b v n q x o g y) file
 
 -- whether the list is full, as it is counted
-pub full_is : (d : Inside) (n : ℕ) (full : Bool) → vec_len d.entries ≡ length d.entries.items →
-    full ≡ (nat_le d.most (vec_len d.entries) || nat_lt (d.room - vec_len d.written) n) → is_full n (disk_state d) ≡ full
-full_is d n full lens is =
-    ap (λ (k : ℕ). nat_le d.most k || nat_lt (d.room - vec_len d.written) n) (length-calls d.entries.items d.written.items ∙ sym lens) ∙ sym is
+pub full_is : (d : Inside) (spare : ℕ × ℕ) (n : ℕ) (full : Bool) → spare ≡ spare_now (disk_state d) → vec_len d.entries ≡ length d.entries.items →
+    full ≡ (nat_le (d.most + spare.0) (vec_len d.entries) || nat_lt (d.room + spare.1 - vec_len d.written) n) → is_full n (disk_state d) ≡ full
+full_is d spare n full spare_is lens is =
+    ap (λ (k : ℕ). nat_le (d.most + (spare_now (disk_state d)).0) k || nat_lt (d.room + (spare_now (disk_state d)).1 - vec_len d.written) n)
+    (length-calls d.entries.items d.written.items ∙ sym lens)
+    ∙ ap (λ (w : ℕ × ℕ). nat_le (d.most + w.0) (vec_len d.entries) || nat_lt (d.room + w.1 - vec_len d.written) n) (sym spare_is)
+    ∙ sym is
 
 -- a call that isn't in the list
 pub refused : (d d' : Inside) (call : DiskCall) → disk_state d' ≡ after_refusal (disk_state d) → is_full (length call.bytes) (disk_state d) ≡ true →
@@ -61,6 +70,7 @@ pub record IsListed (d d' : Inside) (entry : LoggedCall) (bytes : List ℕ) : Ty
   pub used : vec_len d'.written ≡ vec_len d.written + length bytes
   pub most : d'.most ≡ d.most
   pub room : d'.room ≡ d.room
+  pub spare : ◌≡◌ {A = ℕ × ℕ} (d'.spare_calls, d'.spare_bytes) (d.spare_calls, d.spare_bytes)
   pub plan : d'.plan ≡ next_plan d.plan
   pub faults : d'.faults ≡ faults_after entry.answer d.faults
   pub file : d'.file.name ≡ d.file.name
@@ -70,12 +80,17 @@ pub record IsListed (d d' : Inside) (entry : LoggedCall) (bytes : List ℕ) : Ty
 
 -- the room that is left
 pub record HasRoom (d : Inside) : Type 0 where
-  pub entries : vec_len d.entries ≤ d.most
-  pub entries_room : d.most ≤ vec_capacity d.entries
-  pub written : vec_len d.written ≤ d.room
-  pub written_room : d.room ≤ vec_capacity d.written
+  pub entries : vec_len d.entries ≤ d.most + d.spare_calls
+  pub entries_room : d.most + d.spare_calls ≤ vec_capacity d.entries
+  pub written : vec_len d.written ≤ d.room + d.spare_bytes
+  pub written_room : d.room + d.spare_bytes ≤ vec_capacity d.written
 
-module _ (d d' : Inside) (entry : LoggedCall) (bytes : List ℕ) (is : IsMemDisk d) (listed : IsListed d d' entry bytes) where
+-- the vectors are as long as what they hold
+abbrev pub AreLong : Inside → Inside → Type 0
+AreLong d d' =
+    (vec_len d.entries ≡ length d.entries.items) × (vec_len d'.entries ≡ length d'.entries.items) × (vec_len d.written ≡ length d.written.items)
+
+module _ (d d' : Inside) (entry : LoggedCall) (bytes : List ℕ) (is : IsMemDisk d) (listed : IsListed d d' entry bytes) (lens : AreLong d d') where
   abbrev all : List DiskCall
   all = calls_of d.entries.items d.written.items
 
@@ -94,14 +109,23 @@ module _ (d d' : Inside) (entry : LoggedCall) (bytes : List ℕ) (is : IsMemDisk
       (subst (λ es. AreLogged (length d.bytes.items) es d'.written.items) (sym listed.entries)
       (subst (λ w. AreLogged (length d.bytes.items) (d.entries.items ++ entry ∷ []) w) (sym listed.written) push.logged))
 
+  entries_are : vec_len d.entries ≡ length d.entries.items
+  entries_are = lens.0
+
+  entries_are' : vec_len d'.entries ≡ length d'.entries.items
+  entries_are' = lens.1
+
+  written_are : vec_len d.written ≡ length d.written.items
+  written_are = lens.2
+
   longer : length d'.entries.items ≡ length d.entries.items + 1
   longer = ap length listed.entries ∙ length-append d.entries.items (entry ∷ [])
 
-  entered : {story : Story} → story_of d'.base.items (effective_calls d') ≡ story →
+  entered : {story : Story} → story_of d'.base.items (effective_calls d') ≡ story → d'.live ≡ (if d.plan.stopped then d.live else d.live + 1) →
       story ≡ (if d.plan.stopped then story_of d.base.items (effective_calls d) else next_story (story_of d.base.items (effective_calls d)) (call_of entry bytes)) →
       disk_state d' ≡ after_call (call_of entry bytes) (disk_state d)
-  entered a b =
-      same_state (a ∙ b) calls_now listed.used listed.most listed.room listed.plan listed.faults listed.file
+  entered a made b =
+      same_state (a ∙ b) calls_now made listed.used listed.most listed.room listed.spare listed.plan listed.faults listed.file
       ∙ sym (ap (λ (full : Bool). if full then after_refusal (disk_state d) else after_entry (call_of entry bytes) (disk_state d)) listed.enough)
 
   -- a call of a disk that has stopped
@@ -116,7 +140,7 @@ module _ (d d' : Inside) (entry : LoggedCall) (bytes : List ℕ) (is : IsMemDisk
     same_story = ap (λ b. story_of b (effective_calls d')) listed.base ∙ ap (λ cs. story_of d.base.items cs) same_calls
 
     pub late_state : disk_state d' ≡ after_call (call_of entry bytes) (disk_state d)
-    late_state = entered same_story (sym (ap (λ (b : Bool). if b then story_of d.base.items (effective_calls d) else next_story (story_of d.base.items (effective_calls d)) (call_of entry bytes)) stopped))
+    late_state = entered same_story (live ∙ sym (ap (λ (b : Bool). if b then d.live else d.live + 1) stopped)) (sym (ap (λ (b : Bool). if b then story_of d.base.items (effective_calls d) else next_story (story_of d.base.items (effective_calls d)) (call_of entry bytes)) stopped))
 
     stays : d'.plan.stopped ≡ true
     stays = ap (λ (p : FaultPlan). p.stopped) listed.plan ∙ ap (λ (b : Bool). b || d.plan.stop_in == 1) stopped
@@ -136,6 +160,15 @@ module _ (d d' : Inside) (entry : LoggedCall) (bytes : List ℕ) (is : IsMemDisk
           (subst (λ b. IsSettled b d'.bytes.items (effective_calls d') d.synced) (sym listed.base)
           (subst (λ b. IsSettled d.base.items b (effective_calls d') d.synced) (sym same)
           (subst (λ cs. IsSettled d.base.items d.bytes.items cs d.synced) (sym same_calls) is.settled)));
+      fits = λ on. absurd (grind (arith, on, stays));
+      fitted = λ again. (
+        omega (arith, (is.fitted stopped).0, live, listed.most),
+        subst (λ (n : ℕ). written_of (take (n - 1) (calls_of d'.entries.items d'.written.items)) ≤ d'.room) (sym live)
+            (subst (λ (cs : List DiskCall). written_of (take (d.live - 1) cs) ≤ d'.room) (sym calls_now)
+            (subst (λ (cs : List DiskCall). written_of cs ≤ d'.room)
+            (sym (take-append-le (d.live - 1) all (call_of entry bytes ∷ []) (omega (arith, is.live, length-calls d.entries.items d.written.items))))
+            (omega (arith, (is.fitted stopped).1, listed.room)))),
+      );
     }
 
   -- one of a disk that hasn't
@@ -157,10 +190,41 @@ module _ (d d' : Inside) (entry : LoggedCall) (bytes : List ℕ) (is : IsMemDisk
         ∙ one_more_call d.base.items (effective_calls d) (call_of entry bytes)
 
     pub made_state : disk_state d' ≡ after_call (call_of entry bytes) (disk_state d)
-    made_state = entered next (sym (ap (λ (b : Bool). if b then story_of d.base.items (effective_calls d) else next_story (story_of d.base.items (effective_calls d)) (call_of entry bytes)) going))
+    made_state = entered next (live ∙ sym (ap (λ (b : Bool). if b then d.live else d.live + 1) going)) (sym (ap (λ (b : Bool). if b then story_of d.base.items (effective_calls d) else next_story (story_of d.base.items (effective_calls d)) (call_of entry bytes)) going))
 
     counted : length (effective_calls d) + 1 ≡ d'.live
     counted = ap (λ (cs : List DiskCall). length cs + 1) whole ∙ omega (arith, is.all going, live, length-calls d.entries.items d.written.items)
+
+    -- all that was listed before has found room, and the call where the disk doesn't stop at it
+    all_before : take d.live (all ++ call_of entry bytes ∷ []) ≡ all
+    all_before =
+        take-append-le d.live all (call_of entry bytes ∷ []) (omega (arith, is.live, length-calls d.entries.items d.written.items))
+        ∙ take_all d.live all (omega (arith, is.all going, length-calls d.entries.items d.written.items))
+
+    next_by : (next : Bool) → (d.plan.stop_in == 1) ≡ next → (d.plan.stopped || next) ≡ false → stops_next d.plan ≡ false
+    next_by true is none = let both : true ≡ false = sym (ap (λ (b : Bool). b || true) going) ∙ none in absurd cc
+    next_by false is none = ap (λ (b : Bool). not d.plan.stopped && b) is ∙ by_stopped d.plan.stopped where
+      by_stopped : (b : Bool) → (not b && false) ≡ false
+      by_stopped true = refl
+      by_stopped false = refl
+
+    not_next : d'.plan.stopped ≡ false → stops_next d.plan ≡ false
+    not_next on = next_by (d.plan.stop_in == 1) refl (sym (ap (λ (p : FaultPlan). p.stopped) listed.plan) ∙ on)
+
+    room_by : (most calls left n : ℕ) (full : Bool) → nat_le most calls ≡ full → (full || nat_lt left n) ≡ false → (calls < most) × (n ≤ left)
+    room_by most calls left n true is none = absurd (grind (arith, none))
+    room_by most calls left n false is none = (grind (arith, nat_tests, is), grind (arith, nat_tests, none))
+
+    enough : stops_next d.plan ≡ false → (vec_len d'.entries ≤ d'.most) × (vec_len d'.written ≤ d'.room)
+    enough none =
+        let no_spare : spare_now (disk_state d) ≡ (0, 0) = ap (λ (b : Bool). spare_if b (d.spare_calls, d.spare_bytes)) none in
+        let fits : (length all < d.most + 0) × (length bytes ≤ d.room + 0 - vec_len d.written) =
+        subst (λ (w : ℕ × ℕ). (length all < d.most + w.0) × (length bytes ≤ d.room + w.1 - vec_len d.written)) no_spare
+        (room_by (d.most + (spare_now (disk_state d)).0) (length all) (d.room + (spare_now (disk_state d)).1 - vec_len d.written) (length bytes)
+        (nat_le (d.most + (spare_now (disk_state d)).0) (length all)) refl listed.enough) in (
+          omega (arith, fits.0, longer, entries_are', length-calls d.entries.items d.written.items, listed.most),
+          omega (arith, fits.1, listed.used, listed.room, (is.fits going).1),
+        )
 
     pub made_kept : d'.bytes.items ≡ bytes_under entry.kind entry.at bytes d.bytes.items → length d'.bytes.items ≡ length d.bytes.items →
         d'.synced ≡ settled_count entry.kind entry.answer d.synced d'.live → HasRoom d' → IsMemDisk d'
@@ -179,6 +243,15 @@ module _ (d d' : Inside) (entry : LoggedCall) (bytes : List ℕ) (is : IsMemDisk
           (subst (λ b. IsSettled d.base.items b (effective_calls d') (settled_count entry.kind entry.answer d.synced (length (effective_calls d) + 1))) (sym changed)
           (subst (λ cs. IsSettled d.base.items (bytes_under entry.kind entry.at bytes d.bytes.items) cs (settled_count entry.kind entry.answer d.synced (length (effective_calls d) + 1))) (sym more_calls)
           (settled_on d.base.items d.bytes.items (effective_calls d) d.synced (call_of entry bytes) is.settled))));
+      fits = λ on. enough (not_next on);
+      fitted = λ stops. (
+        omega (arith, is.all going, (is.fits going).0, live, listed.most, entries_are),
+        let before : d.live ≡ d'.live - 1 = omega (arith, live) in
+            subst (λ (n : ℕ). written_of (take n (calls_of d'.entries.items d'.written.items)) ≤ d'.room) before
+            (subst (λ (cs : List DiskCall). written_of (take d.live cs) ≤ d'.room) (sym calls_now)
+            (subst (λ (cs : List DiskCall). written_of cs ≤ d'.room) (sym all_before)
+            (omega (arith, written_is (length d.bytes.items) d.entries.items d.written.items is.logged, written_are, (is.fits going).1, listed.room)))),
+      );
     }
 
 -- what a call answers for which the list has room

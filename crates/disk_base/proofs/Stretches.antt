@@ -1,6 +1,6 @@
 -- What some calls and then more calls count and keep.
 use Rattle.std.proofs.Common.{◌≡◌, ◌⊎◌, inl, inr, ⊎_elim, ℕ, ◌+◌, suc, ◌-◌, ◌<◌, ◌≤◌, Bool, true, false, List, length, Option, ◌∙◌, refl, sym, ap, subst, arith}
-use Rattle.std.proofs.lemmas.Bool.{cases_lt}
+use Rattle.std.proofs.lemmas.Bool.{cases_eq, cases_lt}
 use Rattle.disk_base.specs.Calls.{DiskCall, Logs, sync_call, with_call, write_call}
 use Rattle.disk_base.specs.Settle.{LogsBoth}
 use Rattle.disk_base.specs.Faults.{DiskFault, DiskHealth, GoesAsListed, HasCause, IsAmong, IsCrowded, IsLeftOut, IsPlanned, IsUsed, one_more}
@@ -24,6 +24,9 @@ used_none a = record {
   unplanned = none_planned a;
   going = refl;
   exact = refl;
+  counted = λ goes. omega arith;
+  room_is = λ goes. omega arith;
+  bounds_kept = refl;
 }
 
 among_by : (before now n k all : ℕ) → (before < suc n) ⊎ (suc n ≤ before) → now ≡ before - n → (IsAmong before n → ⊥) → n + k ≡ all →
@@ -52,6 +55,10 @@ module _ (a b : DiskHealth) (n x : ℕ) (first : IsUsed a b n x) where
   planned_before k all sum (inr (inl is)) = inr (inl (omega (arith, first.stop_left, is.0), omega (arith, first.stop_left, is.1, sum)))
   planned_before k all sum (inr (inr is)) = inr (inr (sym first.going ∙ is.0, omega (arith, is.1, sum)))
 
+  -- what is listed behind them comes to what it says, if what was listed first does
+  pub lists_on : GoesAsListed a → GoesAsListed b
+  lists_on goes = record { exact = first.exact ∙ goes.exact; on = first.going ∙ goes.on }
+
   pub used_behind : (c : DiskHealth) (k y all both : ℕ) → n + k ≡ all → x + y ≡ both → IsUsed b c k y → IsUsed a c all both
   used_behind c k y all both sum bytes second = record {
     same = second.same ∙ first.same;
@@ -64,11 +71,10 @@ module _ (a b : DiskHealth) (n x : ℕ) (first : IsUsed a b n x) where
     unplanned = λ is. second.unplanned (planned_behind k all sum is);
     going = second.going ∙ first.going;
     exact = second.exact ∙ first.exact;
+    counted = λ goes. omega (arith, sum, first.counted goes, second.counted (lists_on goes));
+    room_is = λ goes. omega (arith, bytes, first.room_is goes, second.room_is (lists_on goes));
+    bounds_kept = second.bounds_kept ∙ first.bounds_kept;
   }
-
-  -- what is listed behind them comes to what it says, if what was listed first does
-  pub lists_on : GoesAsListed a → GoesAsListed b
-  lists_on goes = record { exact = first.exact ∙ goes.exact; on = first.going ∙ goes.on }
 
   pub fault_behind : (c : DiskHealth) (k all : ℕ) (L M : Type 0) → n + k ≤ all → (L → M) → DiskFault b c k L → DiskFault a c all M
   fault_behind c k all L M sum more second = record {
@@ -83,6 +89,8 @@ module _ (a b : DiskHealth) (n x : ℕ) (first : IsUsed a b n x) where
         (second.lacking (omega (arith, sure, first.calls_left)));
     stays = λ is. second.stays (first.going ∙ is);
     stops = λ is. ⊎_elim (λ stopped. inl (sym first.going ∙ stopped)) (λ here. inr (omega (arith, here, first.stop_left))) (second.stops is);
+    last = λ goes is. omega (arith, first.counted goes, second.last (lists_on goes) is);
+    bounds_kept = second.bounds_kept ∙ first.bounds_kept;
     calls_kept = omega (arith, first.calls_kept, second.calls_kept);
     room_kept = omega (arith, first.room_kept, second.room_kept);
   }
@@ -104,6 +112,7 @@ module _ (a b : DiskHealth) (n x : ℕ) (first : IsUsed a b n x) where
     unplanned = λ due. is.unplanned (planned_behind made all sum due);
     crowded = crowded_behind (made + 1) y (all + 1) both (omega (arith, sum)) bytes is.crowded;
     going = is.going ∙ first.going;
+    waits = λ here. is.waits (omega (arith, here, sum, first.stop_left));
   }
 
   -- also one that writes nothing, which wants no room for bytes
@@ -112,6 +121,7 @@ module _ (a b : DiskHealth) (n x : ℕ) (first : IsUsed a b n x) where
     unplanned = λ due. is.unplanned (planned_behind made all sum due);
     crowded = ⊎_elim (λ less. inl (omega (arith, sum, less, first.calls_left))) (λ less. absurd (omega (arith, less))) is.crowded;
     going = is.going ∙ first.going;
+    waits = λ here. is.waits (omega (arith, here, sum, first.stop_left));
   }
 
 -- of more calls than there were
@@ -127,20 +137,30 @@ module _ (a c : DiskHealth) (all x : ℕ) (on : a.stopped ≡ false) (fault : Di
   due : IsPlanned a (fault.made + 1) → IsPlanned a all
   due is = planned_before a a 0 0 (used_none a) (fault.made + 1) all (omega (arith, fault.few)) is
 
-  left_out : c.stopped ≡ false → IsCrowded a (fault.made + 1) x → IsLeftOut a c fault.made x
-  left_out goes crowded = record { unplanned = fault.unplanned; crowded = crowded; going = goes ∙ sym on }
+  -- it isn't the one that was to stop the disk
+  module _ (goes : c.stopped ≡ false) (other : a.stop_in ≡ fault.made + 1 → ⊥) where
+    left_out : IsCrowded a (fault.made + 1) x → IsLeftOut a c fault.made x
+    left_out crowded = record {
+      unplanned = fault.unplanned;
+      crowded = crowded;
+      going = goes ∙ sym on;
+      waits = λ here. absurd (other here);
+    }
 
-  by_room : c.stopped ≡ false → (fault.made < a.calls) ⊎ (a.calls ≤ fault.made) → IsPlanned a all ⊎ IsLeftOut a c fault.made x
-  by_room goes (inl some) = ⊎_elim (λ is. inl (due is)) (λ less. inr (left_out goes (inr less))) (fault.lacking some)
-  by_room goes (inr none) = inr (left_out goes (inl (omega (arith, none))))
+    by_room : (fault.made < a.calls) ⊎ (a.calls ≤ fault.made) → IsPlanned a all ⊎ IsLeftOut a c fault.made x
+    by_room (inl some) = ⊎_elim (λ is. inl (due is)) (λ less. inr (left_out (inr less))) (fault.lacking some)
+    by_room (inr none) = inr (left_out (inl (omega (arith, none))))
+
+  to_stop : a.stop_in ≡ fault.made + 1 → IsPlanned a all ⊎ IsLeftOut a c fault.made x
+  to_stop here = inl (inr (inl (omega (arith, here), omega (arith, here, fault.few))))
 
   by_stop : (stopped : Bool) → c.stopped ≡ stopped → IsPlanned a all ⊎ IsLeftOut a c fault.made x
-  by_stop true is = ⊎_elim (λ before. absurd (both before on))
-      (λ here. inl (inr (inl (omega (arith, here), omega (arith, here, fault.few))))) (fault.stops is)
+  by_stop true is = ⊎_elim (λ before. absurd (both before on)) to_stop (fault.stops is)
     where
       both : a.stopped ≡ true → a.stopped ≡ false → ⊥
       both one two = cc
-  by_stop false is = by_room is (cases_lt fault.made a.calls)
+  by_stop false is =
+      ⊎_elim to_stop (λ other. by_room is other (cases_lt fault.made a.calls)) (cases_eq a.stop_in (fault.made + 1))
 
   pub planned_or_left_out : IsPlanned a all ⊎ IsLeftOut a c fault.made x
   planned_or_left_out = by_stop c.stopped refl

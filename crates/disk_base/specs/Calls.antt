@@ -1,5 +1,6 @@
 -- The calls that were made on a disk (this profile).
 use Rattle.std.specs.Prelude.{◌≡◌, ◌⊎◌, ℕ, List, [], ◌∷◌, ◌++◌, length, Option}
+use Rattle.std.specs.List.{sum_by}
 use Rattle.std.specs.Option.{option_map}
 use Rattle.disk_base.specs.declared.disk.CallKind.{CallKind}
 use Rattle.disk_base.specs.declared.disk.CallKind.TheVariants.{Attach, Read, Write, Sync}
@@ -13,6 +14,10 @@ pub record DiskCall : Type 0 where
   pub size : ℕ
   pub bytes : List ℕ
   pub answer : DiskAnswer
+
+-- how many bytes calls write
+abbrev pub written_of : List DiskCall → ℕ
+written_of calls = sum_by (λ call. length call.bytes) calls
 
 -- an attaching has as its size the one that it asked for
 abbrev pub attach_call : ℕ → DiskAnswer → DiskCall

@@ -1,6 +1,6 @@
 -- What a disk in memory keeps (this profile).
-use Rattle.std.specs.Prelude.{◌≡◌, ℕ, ◌≤◌, false, List, [], length, take, drop, fold, vec_capacity, vec_len}
-use Rattle.disk_base.specs.Calls.{DiskCall}
+use Rattle.std.specs.Prelude.{◌≡◌, ℕ, ◌+◌, ◌-◌, ◌≤◌, true, false, List, [], length, take, drop, fold, vec_capacity, vec_len}
+use Rattle.disk_base.specs.Calls.{DiskCall, written_of}
 use Rattle.disk_base.specs.Cut.{settled_bytes}
 use Rattle.disk_base.specs.Log.{AreLogged, bytes_after, calls_of, loose_after, story_of}
 use Rattle.disk_base.specs.MemDisk.{DiskState}
@@ -14,9 +14,11 @@ abbrev pub disk_state : Inside → DiskState
 disk_state d = record {
   story = story_of d.base.items (effective_calls d);
   calls = calls_of d.entries.items d.written.items;
+  made = d.live;
   used = vec_len d.written;
   most = d.most;
   room = d.room;
+  spare = (d.spare_calls, d.spare_bytes);
   plan = d.plan;
   faults = d.faults;
   file = d.file.name;
@@ -33,10 +35,14 @@ pub record IsSettled (base now : List ℕ) (calls : List DiskCall) (synced : ℕ
 pub record IsMemDisk (d : Inside) : Type 0 where
   pub long : length d.base.items ≡ length d.bytes.items
   pub logged : AreLogged (length d.bytes.items) d.entries.items d.written.items
-  pub entries : vec_len d.entries ≤ d.most
-  pub entries_room : d.most ≤ vec_capacity d.entries
-  pub written : vec_len d.written ≤ d.room
-  pub written_room : d.room ≤ vec_capacity d.written
+  pub entries : vec_len d.entries ≤ d.most + d.spare_calls
+  pub entries_room : d.most + d.spare_calls ≤ vec_capacity d.entries
+  pub written : vec_len d.written ≤ d.room + d.spare_bytes
+  pub written_room : d.room + d.spare_bytes ≤ vec_capacity d.written
   pub live : d.live ≤ length d.entries.items
   pub all : d.plan.stopped ≡ false → d.live ≡ length d.entries.items
   pub settled : IsSettled d.base.items d.bytes.items (effective_calls d) d.synced
+  -- what is listed found room, up to the call at which it stopped
+  pub fits : d.plan.stopped ≡ false → (vec_len d.entries ≤ d.most) × (vec_len d.written ≤ d.room)
+  pub fitted : d.plan.stopped ≡ true → (d.live - 1 ≤ d.most)
+      × (written_of (take (d.live - 1) (calls_of d.entries.items d.written.items)) ≤ d.room)

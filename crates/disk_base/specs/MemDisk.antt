@@ -1,12 +1,12 @@
 -- A disk in memory (this profile).
-use Rattle.std.specs.Prelude.{ℕ, ◌+◌, ◌-◌, Bool, true, ◌||◌, nat_le, nat_lt, List, [], ◌∷◌, ◌++◌, length, if◌then◌else◌}
-use Rattle.std.specs.Prelude.{Option, None}
-use Rattle.disk_base.specs.Calls.{DiskCall, attach_call, read_call, sync_call, write_call}
+use Rattle.std.specs.Prelude.{◌≡◌, ℕ, ◌+◌, ◌-◌, ◌≤◌, Bool, true, false, ◌||◌, nat_le, nat_lt, List, [], ◌∷◌, ◌++◌, length, take}
+use Rattle.std.specs.Prelude.{Option, None, if◌then◌else◌}
+use Rattle.disk_base.specs.Calls.{DiskCall, attach_call, read_call, sync_call, write_call, written_of}
 use Rattle.disk_base.specs.Cut.{image_of}
 use Rattle.disk_base.specs.Disk.{file_behind}
 use Rattle.disk_base.specs.Faults.{DiskHealth, one_more}
 use Rattle.disk_base.specs.Listed.{next_story}
-use Rattle.disk_base.specs.Plan.{next_answer, next_plan, no_faults, refused_plan}
+use Rattle.disk_base.specs.Plan.{next_answer, next_plan, no_faults, refused_plan, stops_next}
 use Rattle.disk_base.specs.Story.{Story, settled_story}
 use Rattle.disk_base.specs.declared.cut.CutChoice.{CutChoice}
 use Rattle.disk_base.specs.declared.disk.CallKind.{CallKind}
@@ -15,26 +15,31 @@ use Rattle.disk_base.specs.declared.disk.DiskAnswer.{DiskAnswer}
 use Rattle.disk_base.specs.declared.disk.DiskAnswer.TheVariants.{Done, Failed}
 use Rattle.disk_base.specs.declared.fault_plan.FaultPlan.{FaultPlan}
 
--- the bytes of every moment, the list of calls, how many bytes they were to write, for how many calls and such bytes
--- the list has room, which calls to come fail, the count of faults, and the name of the file
+-- the bytes of every moment, the list of calls, how many of them were made up to one at which the disk stopped, how
+-- many bytes they were to write, for how many calls and such bytes the list has room, and for how many more at that one
+-- call, which calls to come fail, the count of faults, and the name of the file
 pub record DiskState : Type 0 where
   pub story : Story
   pub calls : List DiskCall
+  pub made : ℕ
   pub used : ℕ
   pub most : ℕ
   pub room : ℕ
+  pub spare : ℕ × ℕ
   pub plan : FaultPlan
   pub faults : ℕ
   pub file : Option (List ℕ)
 
 -- settled bytes, no call yet, and no file
-abbrev pub disk_with : List ℕ → ℕ → ℕ → DiskState
-disk_with bytes most room = record {
+abbrev pub disk_with : List ℕ → ℕ → ℕ → ℕ × ℕ → DiskState
+disk_with bytes most room spare = record {
   story = settled_story bytes;
   calls = [];
+  made = 0;
   used = 0;
   most = most;
   room = room;
+  spare = spare;
   plan = no_faults;
   faults = 0;
   file = None;
@@ -46,6 +51,8 @@ disk_size s = length s.story.now.bytes
 abbrev pub disk_health : DiskState → DiskHealth
 disk_health s = record {
   faults = s.faults;
+  made = s.made;
+  bounds = (s.most, s.room);
   calls = s.most - length s.calls;
   room = s.room - s.used;
   fail_in = s.plan.fail_in;
@@ -54,9 +61,18 @@ disk_health s = record {
   exact = true;
 }
 
--- the list has no room for one more call that writes n bytes
+-- the room that the list has beyond its bounds for the next call, which is what it has to spare if the disk is to stop
+-- there
+abbrev pub spare_if : Bool → ℕ × ℕ → ℕ × ℕ
+spare_if true spare = spare
+spare_if false spare = (0, 0)
+
+abbrev pub spare_now : DiskState → ℕ × ℕ
+spare_now s = spare_if (stops_next s.plan) s.spare
+
+-- it has no room for one more call that writes n bytes
 abbrev pub is_full : ℕ → DiskState → Bool
-is_full n s = nat_le s.most (length s.calls) || nat_lt (s.room - s.used) n
+is_full n s = nat_le (s.most + (spare_now s).0) (length s.calls) || nat_lt (s.room + (spare_now s).1 - s.used) n
 
 -- what a call answers for which the list has room: as planned, but an attaching fails that asks for more bytes than
 -- there are
@@ -86,6 +102,7 @@ abbrev pub after_entry : DiskCall → DiskState → DiskState
 after_entry call s = record s {
   story = if s.plan.stopped then s.story else next_story s.story call;
   calls = s.calls ++ call ∷ [];
+  made = if s.plan.stopped then s.made else s.made + 1;
   used = s.used + length call.bytes;
   plan = next_plan s.plan;
   faults = faults_after call.answer s.faults;
@@ -123,4 +140,13 @@ next_sync s = sync_call (next_answer s.plan)
 
 -- the disk after a crash, whose list has the same bounds
 abbrev pub after_cut : CutChoice → DiskState → DiskState
-after_cut choice s = disk_with (image_of choice s.story) s.most s.room
+after_cut choice s = disk_with (image_of choice s.story) s.most s.room s.spare
+
+-- ---- what is in the list
+
+-- what is listed found room; of a disk that stopped this is said of the calls before the one at which it did
+pub record HasFitted (s : DiskState) : Type 0 where
+  pub used : s.used ≡ written_of s.calls
+  pub within : s.made ≤ length s.calls
+  pub going : s.plan.stopped ≡ false → (s.made ≡ length s.calls) × (length s.calls ≤ s.most) × (s.used ≤ s.room)
+  pub stopped : s.plan.stopped ≡ true → (s.made - 1 ≤ s.most) × (written_of (take (s.made - 1) s.calls) ≤ s.room)

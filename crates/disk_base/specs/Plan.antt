@@ -1,5 +1,5 @@
 -- Which of the calls to come of a disk in memory fail (this profile).
-use Rattle.std.specs.Prelude.{◌-◌, ◌==◌, false, ◌||◌, if◌then◌else◌}
+use Rattle.std.specs.Prelude.{◌-◌, ◌==◌, Bool, false, not, ◌&&◌, ◌||◌, if◌then◌else◌}
 use Rattle.disk_base.specs.declared.disk.DiskAnswer.{DiskAnswer}
 use Rattle.disk_base.specs.declared.disk.DiskAnswer.TheVariants.{Done, Failed}
 use Rattle.disk_base.specs.declared.fault_plan.FaultPlan.{FaultPlan}
@@ -7,6 +7,10 @@ use Rattle.disk_base.specs.declared.fault_plan.FaultPlan.{FaultPlan}
 -- none fails
 abbrev pub no_faults : FaultPlan
 no_faults = record { fail_in = 0; stop_in = 0; stopped = false }
+
+-- whether the disk is to stop at the next call
+abbrev pub stops_next : FaultPlan → Bool
+stops_next plan = not plan.stopped && plan.stop_in == 1
 
 -- what the next call answers
 abbrev pub next_answer : FaultPlan → DiskAnswer
@@ -20,10 +24,6 @@ next_plan plan = record {
   stopped = plan.stopped || plan.stop_in == 1;
 }
 
--- and where it is refused: a stop that was to come at it comes at the next one
+-- and where it is refused: the stop waits for calls that are made
 abbrev pub refused_plan : FaultPlan → FaultPlan
-refused_plan plan = record {
-  fail_in = plan.fail_in - 1;
-  stop_in = if plan.stop_in == 1 then 1 else plan.stop_in - 1;
-  stopped = plan.stopped;
-}
+refused_plan plan = record { fail_in = plan.fail_in - 1; stop_in = plan.stop_in; stopped = plan.stopped }

@@ -1,7 +1,7 @@
 //! Which calls of a disk in memory are to fail, so that a fault or a stop can be tried at each of them.
 
 ghost use Rattle.std.specs.Prelude.{◌≡◌};
-ghost use Rattle.disk_base.specs.Plan.{next_answer, next_plan, no_faults, refused_plan};
+ghost use Rattle.disk_base.specs.Plan.{next_answer, next_plan, no_faults, refused_plan, stops_next};
 
 use crate::disk::DiskAnswer;
 
@@ -28,14 +28,18 @@ impl FaultPlan {
         }
     }
 
-    /// Takes one call off that isn't made. A stop that was to come at it comes at the next one.
+    /// Whether the disk is to stop at the next call.
+    pub fn stops_next(&self) -> bool
+        ensures { result ≡ stops_next self.now }
+    {
+        !self.stopped && self.stop_in == 1
+    }
+
+    /// Takes off a call that isn't made. The stop waits for calls that are made.
     pub fn refuse(&mut self)
         ensures { self.new ≡ refused_plan self.old }
     {
         self.fail_in = self.fail_in.saturating_sub(1);
-        if self.stop_in != 1 {
-            self.stop_in = self.stop_in.saturating_sub(1);
-        }
     }
 
     /// Takes one call off that is made, and gives its answer.

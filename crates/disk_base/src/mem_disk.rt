@@ -1,15 +1,15 @@
 //! A disk in memory, which tells all that a crash may leave, and can be cut there.
 
 ghost use Rattle.std.specs.Prelude.{◌≡◌, ◌+◌, ◌^◌, ◌<◌, ◌≤◌, ◌&&◌, ◌||◌, nat_le, nat_lt, false};
-ghost use Rattle.std.specs.Prelude.{Option, Some, [], length, replicate, refl, All, IfOk};
-ghost use Rattle.disk_base.specs.Calls.{Logs, attach_call, read_call, sync_call, write_call};
+ghost use Rattle.std.specs.Prelude.{Option, Some, List, [], ◌∷◌, ◌++◌, length, replicate, refl, All, IfOk};
+ghost use Rattle.disk_base.specs.Calls.{DiskCall, Logs, attach_call, read_call, sync_call, write_call};
 ghost use Rattle.disk_base.specs.Cut.{image_of, marks_of, settled_bytes};
 ghost use Rattle.disk_base.specs.Disk.{Attaches, HasSize, Reads, Syncs, TellsBytes, Writes};
 ghost use Rattle.disk_base.specs.Faults.{GoesAsListed, HasCause, IsLeftOut};
 ghost use Rattle.disk_base.specs.Images.{IsImage};
 ghost use Rattle.disk_base.specs.Listed.{AsListed};
 ghost use Rattle.disk_base.specs.MemDisk.{after_attaching, after_call, after_cut, answer_of, answer_planned, call_due};
-ghost use Rattle.disk_base.specs.MemDisk.{disk_health, disk_size, disk_with};
+ghost use Rattle.disk_base.specs.MemDisk.{HasFitted, disk_health, disk_size, disk_with, spare_now};
 ghost use Rattle.disk_base.specs.MemDisk.{next_attach, next_read, next_sync, next_write};
 ghost use Rattle.disk_base.specs.MemDisk.{faults_after as counted};
 ghost use Rattle.disk_base.specs.declared.cut.CutChoice.{CutChoice};
@@ -26,8 +26,9 @@ use std::alloc::Global;
 use std::marker::Model;
 
 /// A disk in memory. It takes all its memory when it is made, and is whatever file it is to attach. Its list of calls
-/// has room for so many calls and so many written bytes; a call past either fails, and isn't listed. An attaching that
-/// asks for more bytes than there are fails too, and is listed.
+/// has room for so many calls and so many written bytes; a call past either fails, and isn't listed. It may have room
+/// to spare for the one call at which the disk is to stop. An attaching that asks for more bytes than there are fails
+/// too, and is listed.
 #[derive(Debug, Drop)]
 pub struct MemDisk {
     // what it began with
@@ -37,6 +38,8 @@ pub struct MemDisk {
     written: Vec<u8>,
     most: usize,
     room: usize,
+    spare_calls: usize,
+    spare_bytes: usize,
     // how many of the calls were made before it stopped, or as it stopped
     live: usize,
     // how many of them lie before the last good sync, itself counted
@@ -62,19 +65,44 @@ impl MemDisk {
     /// A disk of `size` bytes, all 0 and settled, whose list has room for `calls` calls and `room` written bytes. No
     /// call is to fail.
     pub fn new(alloc: Global, size: u64, calls: u32, room: u64) -> Result<MemDisk, NoMemory>
-        ensures { IfOk result (λ disk. disk ≡ disk_with (replicate size 0) calls room) }
+        ensures { IfOk result (λ disk. disk ≡ disk_with (replicate size 0) calls room (0, 0)) }
+    {
+        MemDisk::with_spare(alloc, size, calls, room, (0, 0))
+    }
+
+    /// The same, and its list has room for so many calls and bytes more at the call at which the disk is to stop: so a
+    /// stop can be tried also where there is no room.
+    pub fn with_spare(
+        alloc: Global,
+        size: u64,
+        calls: u32,
+        room: u64,
+        spare: (u32, u32),
+    ) -> Result<MemDisk, NoMemory>
+        ensures { IfOk result (λ disk. disk ≡ disk_with (replicate size 0) calls room spare) }
     {
         let bytes = vec![in alloc; 0; size as usize]?;
-        MemDisk::over(alloc, bytes, calls as usize, room as usize)
+        let spare = (spare.0 as usize, spare.1 as usize);
+        MemDisk::over(alloc, bytes, calls as usize, room as usize, spare)
     }
 
     // A disk of these bytes.
-    fn over(alloc: Global, bytes: Vec<u8>, most: usize, room: usize) -> Result<MemDisk, NoMemory>
-        ensures { IfOk result (λ disk. disk ≡ disk_with bytes.items most room) }
+    fn over(
+        alloc: Global,
+        bytes: Vec<u8>,
+        most: usize,
+        room: usize,
+        spare: (usize, usize),
+    ) -> Result<MemDisk, NoMemory>
+        ensures { IfOk result (λ disk. disk ≡ disk_with bytes.items most room spare) }
     {
+        let (Some(calls), Some(long)) = (most.checked_add(spare.0), room.checked_add(spare.1))
+        else {
+            return Err(NoMemory);
+        };
         let base = copy_of(alloc, bytes.as_slice())?;
-        let entries = Vec::with_capacity(alloc, most)?;
-        let written = Vec::with_capacity(alloc, room)?;
+        let entries = Vec::with_capacity(alloc, calls)?;
+        let written = Vec::with_capacity(alloc, long)?;
         Ok(MemDisk {
             base,
             bytes,
@@ -82,6 +110,8 @@ impl MemDisk {
             written,
             most,
             room,
+            spare_calls: spare.0,
+            spare_bytes: spare.1,
             live: 0,
             synced: 0,
             plan: FaultPlan::new(),
@@ -108,23 +138,39 @@ impl MemDisk {
         self.plan.stop_in = call;
     }
 
-    /// How many calls are left up to the one at which it is to stop, itself counted, 0 for none.
+    /// How many calls are left up to the one at which it is to stop, itself counted, 0 for none. What is listed found
+    /// room, up to the one at which the disk stopped.
     pub fn stops_in(&self) -> u32
-        ensures { result ≡ self.now.plan.stop_in }
+        ensures left { result ≡ self.now.plan.stop_in }
+        ensures fitted { HasFitted self.now }
     {
         self.plan.stop_in
     }
 
-    /// Whether the call was made, and is listed, from which on all fail. Stopped or not, a crash leaves one of the
-    /// images, whatever is chosen.
+    /// Whether the call was made, and is listed, from which on all fail. Stopped or not, what is listed found room, but
+    /// for that call and those behind it, and a crash leaves one of the images, whatever is chosen.
     pub fn stopped(&self) -> bool
         ensures stopped { result ≡ self.now.plan.stopped }
+        ensures fitted { HasFitted self.now }
         ensures images { (choice : CutChoice) → IsImage self.now.story.now (image_of choice self.now.story) }
     {
         self.plan.stopped
     }
 
-    /// Whether its list has room for so many more calls, and for so many bytes that they write.
+    /// What the call has answered that is listed last, `Done` where none is.
+    pub fn last_answer(&self) -> DiskAnswer
+        ensures { (front : List DiskCall) (call : DiskCall) → self.now.calls ≡ front ++ call ∷ [] →
+            result ≡ call.answer }
+    {
+        let made = self.entries.len();
+        if made == 0 {
+            return DiskAnswer::Done;
+        }
+        self.entries[made - 1].answer
+    }
+
+    /// Whether its list has room for so many more calls, and for so many bytes that they write, without what it has to
+    /// spare.
     pub fn has_room(&self, calls: u32, bytes: u64) -> bool
         ensures { result ≡ nat_le calls (disk_health self.now).calls && nat_le bytes (disk_health self.now).room }
     {
@@ -132,9 +178,9 @@ impl MemDisk {
         let used = self.written.len();
         are_left(
             calls as usize,
-            self.most - made,
+            self.most.saturating_sub(made),
             bytes as usize,
-            self.room - used,
+            self.room.saturating_sub(used),
         )
     }
 
@@ -147,7 +193,8 @@ impl MemDisk {
         let settled = self.settled(alloc)?;
         let marks = self.marks(alloc)?;
         let image = left_bytes(alloc, choice, &marks, &settled, &self.bytes)?;
-        MemDisk::over(alloc, image, self.most, self.room)
+        let spare = (self.spare_calls, self.spare_bytes);
+        MemDisk::over(alloc, image, self.most, self.room, spare)
     }
 
     // The settled bytes.
@@ -181,6 +228,18 @@ impl MemDisk {
         are_bytes(&self.bytes);
     }
 
+    // The room beyond its bounds for the next call.
+    fn spare_now(&self) -> (usize, usize)
+        ensures is { result ≡ spare_now self.now }
+        ensures bounds { (result.0 ≤ self.now.spare.0) × (result.1 ≤ self.now.spare.1) }
+    {
+        if self.plan.stops_next() {
+            (self.spare_calls, self.spare_bytes)
+        } else {
+            (0, 0)
+        }
+    }
+
     // Makes a call that lies within the disk.
     fn call(&mut self, kind: CallKind, at: u64, size: u64, bytes: &[u8]) -> DiskAnswer
         requires { at + length bytes.now ≤ disk_size self.old }
@@ -188,8 +247,9 @@ impl MemDisk {
         ensures answer { result ≡ answer_of (call_due kind at size bytes.now self.old) self.old }
         ensures state { self.new ≡ after_call (call_due kind at size bytes.now self.old) self.old }
     {
-        let room = self.room - self.written.len();
-        if is_crowded(self.entries.len(), self.most, room, bytes.len()) {
+        let spare = self.spare_now();
+        let room = (self.room + spare.1).saturating_sub(self.written.len());
+        if is_crowded(self.entries.len(), self.most + spare.0, room, bytes.len()) {
             self.plan.refuse();
             self.faults = self.faults.saturating_add(1);
             return DiskAnswer::Failed;

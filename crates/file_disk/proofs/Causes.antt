@@ -25,6 +25,9 @@ counted before now n Lacking Done same = record {
   unplanned = unplanned before;
   going = refl;
   exact = refl;
+  counted = λ goes. let exact = goes.exact in cc;
+  room_is = λ goes. let exact = goes.exact in cc;
+  bounds_kept = refl;
 }
 counted before now n Lacking Failed rose = record {
   rose = rose;
@@ -34,6 +37,8 @@ counted before now n Lacking Failed rose = record {
   lacking = λ one. absurd (omega (arith, one));
   stays = λ stopped. absurd cc;
   stops = λ stopped. absurd cc;
+  last = λ goes stopped. absurd cc;
+  bounds_kept = refl;
   calls_kept = omega arith;
   room_kept = omega arith;
 }

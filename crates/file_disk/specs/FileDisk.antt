@@ -8,6 +8,8 @@ use Rattle.disk_base.specs.declared.disk.DiskAnswer.TheVariants.{Done, Failed}
 abbrev pub file_health : ℕ → DiskHealth
 file_health faults = record {
   faults = faults;
+  made = 0;
+  bounds = (0, 0);
   calls = 0;
   room = 0;
   fail_in = 0;

@@ -2,7 +2,7 @@
 
 use Rattle.std.proofs.Common.{arith, length}
 use Rattle.disk_base.proofs.Listings.{listed_behind}
-use Rattle.disk_base.proofs.Stretches.{both_logged, cause_behind, lists_on}
+use Rattle.disk_base.proofs.Stretches.{both_logged, cause_behind, fault_wider, lists_on}
 use Rattle.disk_base.proofs.settling.settle.Goals as goal
 
 pub returns-clause-calls : goal.returns-clause-calls
@@ -13,6 +13,10 @@ pub returns-clause-cause : goal.returns-clause-cause
 returns-clause-cause g c =
     cause_behind _ _ 1 (length c.args.bytes.now) c.in-Done.ensures.cause _ 1 0 2 (length c.args.bytes.now) _ _ c.sync.result (omega arith)
     (omega arith) (λ none. absurd none) c.sync.ensures.cause
+
+pub returns-in-Failed-clause-cause : goal.returns-in-Failed-clause-cause
+returns-in-Failed-clause-cause g c =
+    fault_wider _ _ 1 2 _ _ (omega arith) (λ less. less) c.in-Failed.ensures.cause
 
 pub returns-clause-listed : goal.returns-clause-listed
 returns-clause-listed g c =

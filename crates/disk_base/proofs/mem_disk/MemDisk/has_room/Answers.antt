@@ -11,11 +11,15 @@ returns c =
     let d = c.self.inside in
     let made : c.len-made.result ≡ length d.entries.items = search rules in
     let used : c.len-used.result ≡ vec_len d.written = search rules in
+    let calls : c.saturating_sub.result ≡ d.most - c.len-made.result = search rules in
+    let bytes : c.saturating_sub-2.result ≡ d.room - c.len-used.result = search rules in
     subst
     (λ (s : DiskState).
     c.are_left.result ≡ nat_le c.args.calls (disk_health s).calls && nat_le c.args.bytes (disk_health s).room)
     c.self.view_is
     (c.are_left.ensures
+    ∙ ap (λ (k : ℕ). nat_le c.args.calls k && nat_le c.args.bytes c.saturating_sub-2.result) calls
+    ∙ ap (λ (k : ℕ). nat_le c.args.calls (d.most - c.len-made.result) && nat_le c.args.bytes k) bytes
     ∙ ap (λ (k : ℕ). nat_le c.args.calls (d.most - k) && nat_le c.args.bytes (d.room - c.len-used.result))
     (made ∙ sym (length-calls d.entries.items d.written.items))
     ∙ ap
