@@ -1,20 +1,14 @@
 -- Lists whose messages take one slot each.
-use Rattle.std.proofs.Common.{◌≡◌, ℕ, zero, suc, ◌+◌, ◌/◌, ◌<◌, ◌≤◌, ◌==◌, Bool, true, false, if◌then◌else◌, List, [], ◌∷◌, length, drop, Some, refl, sym, subst, arith}
-use Rattle.std.proofs.lemmas.Bool.Decides.{nat_tests}
+use Rattle.std.proofs.Common.{◌≡◌, ℕ, zero, suc, ◌+◌, ◌<◌, ◌≤◌, List, [], ◌∷◌, length, drop, Some, refl, sym, subst, arith}
 use Rattle.std.specs.List.{slice_get}
-use Rattle.spool_file.specs.Run.{IsChainFrom, IsRunFrom, slots_for, width}
-use Rattle.spool_file.specs.Slot.{Message}
+use Rattle.spool_file.specs.Run.{IsChainFrom, IsRunFrom}
+use Rattle.spool_file.specs.Sizes.{slots_for}
+use Rattle.spool_file.specs.Slot.{Message, width}
 use Rattle.spool_file.proofs.Areas.{Each}
 use Rattle.spool_file.proofs.Runs.{chain_up, some_width}
+use Rattle.spool_file.proofs.BodySizes.{one_slot}
 
 -- a body of no more bytes than a slot has room for takes one
-pub one_slot : (long : ℕ) → long ≤ 4081 → slots_for long ≡ 1
-unfolding slots_for
-one_slot long short = by_test (long == 0) refl where
-  by_test : (b : Bool) → (long == 0) ≡ b → (if b then 1 else (long + 4080) / 4081) ≡ 1
-  by_test true is = refl
-  by_test false is = let some : 1 ≤ long = grind (arith, nat_tests, is) in omega (arith, some, short)
-
 pub even_width : (body : List ℕ) → length body ≤ 4081 → slots_for (length body) ≡ 1
 even_width body short = one_slot (length body) short
 

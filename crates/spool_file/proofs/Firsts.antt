@@ -1,8 +1,8 @@
 -- The first break that a test of slots finds.
-use Rattle.std.proofs.Common.{◌≡◌, ℕ, zero, suc, ◌+◌, ◌<◌, ◌⊎◌, Bool, Option, Some, None, refl, sym, ap, subst, ◌∙◌}
-use Rattle.std.proofs.Common.{arith, inl, inr}
+use Rattle.std.proofs.Common.{◌≡◌, ℕ, zero, suc, ◌+◌, ◌<◌, ◌⊎◌, Bool, true, false, ◌||◌, if◌then◌else◌, Option, Some}
+use Rattle.std.proofs.Common.{None, refl, sym, ap, subst, ◌∙◌, arith, inl, inr}
 use Rattle.std.proofs.lemmas.Bool.{cases_eq}
-use Rattle.spool_file.specs.Area.{first_at, messages_below, or_else, put_if}
+use Rattle.spool_file.specs.Area.{any_below, first_at, messages_below, or_else, put_if}
 use Rattle.spool_file.specs.Slot.{Message, in_slot}
 
 pub one_more : (k : ℕ) → suc k ≡ k + 1
@@ -60,3 +60,51 @@ out_of_slot k (Some p) is = absurd (grind (arith, is))
 -- something isn't nothing
 pub found_none : {at : ℕ} {place : Option ℕ} → Some at ≡ place → place ≡ None → ⊥
 found_none {at} {place} some none = grind (arith, some, none)
+
+-- ---- tests in a row
+
+pub or_none : (place : Option ℕ) → or_else place None ≡ place
+or_none None = refl
+or_none (Some place) = refl
+
+-- one of nested tests
+pub none_if : (b : Bool) (place : ℕ) (rest : Option ℕ) → (if b then Some place else rest) ≡ None →
+    (b ≡ false) × (rest ≡ None)
+none_if true place rest none = absurd (grind (arith, none))
+none_if false place rest none = (refl, none)
+
+pub if_none : (b : Bool) (place : ℕ) (rest : Option ℕ) → b ≡ false → rest ≡ None →
+    (if b then Some place else rest) ≡ None
+if_none true place rest is none = absurd (grind (arith, is))
+if_none false place rest is none = none
+
+-- ---- a test that holds at some place
+
+or_right : (a b : Bool) → b ≡ true → (a || b) ≡ true
+or_right true b is = refl
+or_right false b is = is
+
+or_left : (a b : Bool) → a ≡ true → (a || b) ≡ true
+or_left true b is = refl
+or_left false b is = absurd (grind (arith, is))
+
+any_by : (test : ℕ → Bool) (k n : ℕ) → (k ≡ n) ⊎ (k ≡ n → ⊥) → k < suc n → test k ≡ true →
+    (k < n → any_below test n ≡ true) → (any_below test n || test n) ≡ true
+any_by test k n (inl same) below holds before =
+    or_right (any_below test n) (test n) (subst (λ i. test i ≡ true) same holds)
+any_by test k n (inr other) below holds before =
+    or_left (any_below test n) (test n) (before (grind (arith, below, other)))
+
+pub any_at : (test : ℕ → Bool) (n k : ℕ) → k < n → test k ≡ true → any_below test n ≡ true
+any_at test zero k below holds = absurd (omega (arith, below))
+any_at test (suc n) k below holds =
+    any_by test k n (cases_eq k n) below holds (λ less. any_at test n k less holds)
+
+found_by : (test : ℕ → Bool) (n : ℕ) (a b : Bool) → any_below test n ≡ a → test n ≡ b → (a || b) ≡ true →
+    (any_below test n ≡ true → (k : ℕ) × (k < n) × (test k ≡ true)) → (k : ℕ) × (k < suc n) × (test k ≡ true)
+found_by test n true b first last is before = let r = before first in (r.0, omega (arith, r.1), r.2)
+found_by test n false b first last is before = (n, omega arith, last ∙ is)
+
+pub any_found : (test : ℕ → Bool) (n : ℕ) → any_below test n ≡ true → (k : ℕ) × (k < n) × (test k ≡ true)
+any_found test zero is = absurd (grind (arith, is))
+any_found test (suc n) is = found_by test n (any_below test n) (test n) refl refl is (any_found test n)

@@ -1,80 +1,107 @@
 -- What a new file stands for.
 use Rattle.std.proofs.Common.{◌≡◌, ◌⊎◌, inl, inr, ℕ, ◌+◌, ◌^◌, ◌<◌, ◌≤◌, ◌==◌, nat_lt, Bool, false, if◌then◌else◌, List}
-use Rattle.std.proofs.Common.{[], ◌∷◌, ◌++◌, length, length-append, take, drop, replicate, Option, Some, None, Result}
+use Rattle.std.proofs.Common.{[], ◌∷◌, ◌++◌, append_assoc, length, length-append, take, drop, get_or, replicate, Option, Some, None, Result}
 use Rattle.std.proofs.Common.{Ok, refl, sym, ap, subst, ◌∙◌, arith}
 use Rattle.std.proofs.lemmas.Bool.{cases_eq}
 use Rattle.std.proofs.lemmas.Bool.Decides.{nat_tests}
-use Rattle.std.proofs.lemmas.List.{drop-append-le, drop-drop, drop-take, drop_all, length-replicate, take-append-le}
-use Rattle.std.proofs.lemmas.List.{take-take, take_all}
+use Rattle.std.proofs.lemmas.List.{drop-append-le, drop-drop, drop-take, drop_all, get_or-drop, length-replicate}
+use Rattle.std.proofs.lemmas.List.{take-append-le, take-take, take_all}
 use Rattle.std.proofs.lemmas.Nat.{from_be_bytes-to_be_bytes_4}
 use Rattle.std.specs.Int.{w32, from_be_bytes, to_be_bytes}
 use Rattle.std.specs.Option.{option_map}
 use Rattle.std.specs.Result.{OnOk}
 use Rattle.disk_base.specs.Story.{Story, with_part, with_sync, with_write}
 use Rattle.disk_base.proofs.Marks.{length-part}
-use Rattle.gate_cell.specs.Cell.{Cell, cell_in, cell_of, copy_of}
-use Rattle.spool_file.specs.Area.{or_else}
-use Rattle.spool_file.specs.File.{Ends, SpoolFile, StandsFor, area_break, floor_in, gates_below, list_below, slots_in}
-use Rattle.spool_file.specs.Format.{ClosesTo, IsClosedTo, empty_file, first_page}
+use Rattle.gate_cell.specs.Cell.{Cell, cell_in, cell_of, copy_of, names_second}
+use Rattle.spool_file.specs.Breaks.{list_below}
+use Rattle.spool_file.specs.File.{Ends, SpoolFile, StandsFor, floor_in, frame_in, gates_below, slots_in, version_in}
+use Rattle.spool_file.specs.Format.{ClosesTo, IsClosedTo, empty_file, first_page, new_magic}
 use Rattle.spool_file.specs.Front.{floor_cell, front_break, front_in, front_size, magic, magic_break, mark_cell}
-use Rattle.spool_file.specs.Front.{slots_of, unlike_at}
+use Rattle.spool_file.specs.Front.{magic_of, slots_of, unlike_at, version_of}
 use Rattle.spool_file.specs.Slot.{Message, is_open, slot_in, slot_place, stands_on}
-use Rattle.spool_file.proofs.Fronts.{front_cell, of_front, unlike_front}
-use Rattle.spool_file.proofs.Gapless.{none_break, none_held}
+use Rattle.spool_file.specs.declared.slot.Frame.{Frame}
+use Rattle.spool_file.proofs.Fronts.{front_cell, made_frame, of_front, unlike_front}
 use Rattle.spool_file.proofs.Gates.{closed_absent, shut_gates}
+use Rattle.spool_file.proofs.Sound.{none_held}
+use Rattle.spool_file.proofs.Wholes.{full_in, none_break, spool_sound}
 use Rattle.spool_file.proofs.Written.{bytes_inside, front_beside, gate_written, others_stay}
+
+-- what stands in the first page behind the number of slots
+abbrev early : List ℕ
+early = replicate 34 0
+
+abbrev named : List ℕ
+named = 1 ∷ []
+
+abbrev late : List ℕ
+late = replicate 4049 0
+
+abbrev rest : List ℕ
+rest = early ++ named ++ late
+
+rest_long : length rest ≡ 4084
+rest_long =
+    let first : length early ≡ 34 = length-replicate {A = ℕ} 34 0 in
+    let one : length named ≡ 1 = refl in
+    let last : length late ≡ 4049 = length-replicate {A = ℕ} 4049 0 in
+    omega (arith, length-append (early ++ named) late, length-append early named, first, one, last)
 
 -- the first page
 module _ (slots : ℕ) where
   abbrev count : List ℕ
   count = to_be_bytes w32 slots
 
-  abbrev zeros : List ℕ
-  zeros = replicate 4084 0
-
   abbrev head : List ℕ
-  head = magic ++ count
+  head = new_magic ++ count
 
   count_long : length count ≡ 4
   count_long = refl
 
   head_long : length head ≡ 12
-  head_long = omega (arith, length-append magic count, count_long)
+  head_long = omega (arith, length-append new_magic count, count_long)
 
-  pub page_is : first_page slots ≡ head ++ zeros
+  pub page_parts : first_page slots ≡ head ++ replicate 34 0 ++ (1 ∷ []) ++ replicate 4049 0
   unfolding first_page
-  page_is = refl
+  page_parts = refl
+
+  pub page_is : first_page slots ≡ head ++ rest
+  page_is =
+      page_parts
+      ∙ ap (λ (xs : List ℕ). xs ++ replicate 4049 0) (append_assoc head (replicate 34 0) (1 ∷ []))
+      ∙ append_assoc head (replicate 34 0 ++ (1 ∷ [])) (replicate 4049 0)
 
   pub page_long : length (first_page slots) ≡ 4096
-  page_long =
-      let behind_long : length zeros ≡ 4084 = length-replicate {A = ℕ} 4084 0 in
-      ap length page_is ∙ omega (arith, length-append head zeros, head_long, behind_long)
+  page_long = ap length page_is ∙ omega (arith, length-append head rest, head_long, rest_long)
 
   abbrev front : List ℕ
-  front = take 46 (head ++ zeros)
+  front = take 47 (head ++ rest)
 
   twelve : take 12 front ≡ head
-  twelve = take-take 12 46 (head ++ zeros) (omega arith) ∙ take-append-le 12 head zeros (omega (arith, head_long))
+  twelve = take-take 12 47 (head ++ rest) (omega arith) ∙ take-append-le 12 head rest (omega (arith, head_long))
       ∙ take_all 12 head (omega (arith, head_long))
-
-  magic_none : magic_break front ≡ None
-  unfolding magic_break
-  magic_none =
-      sym (unlike_front 0 magic front)
-      ∙ ap (λ (xs : List ℕ). unlike_at 0 magic xs)
-      (sym (take-take 8 12 front (omega arith)) ∙ ap (λ (xs : List ℕ). take 8 xs) twelve)
 
   pub slots_are : slots < 2 ^ 32 → slots_of front ≡ slots
   slots_are low =
       ap (λ (xs : List ℕ). from_be_bytes w32 xs) (sym (drop-take 8 4 front) ∙ ap (λ (xs : List ℕ). drop 8 xs) twelve)
       ∙ from_be_bytes-to_be_bytes_4 slots low
 
-  behind : drop 12 (head ++ zeros) ≡ zeros
-  behind = drop-append-le 12 head zeros (omega (arith, head_long))
-      ∙ ap (λ (xs : List ℕ). xs ++ zeros) (drop_all 12 head (omega (arith, head_long)))
+  behind : drop 12 (head ++ rest) ≡ rest
+  behind = drop-append-le 12 head rest (omega (arith, head_long))
+      ∙ ap (λ (xs : List ℕ). xs ++ rest) (drop_all 12 head (omega (arith, head_long)))
 
-  cells : drop 12 front ≡ take 34 zeros
-  cells = drop-take 12 34 (head ++ zeros) ∙ ap (λ (xs : List ℕ). take 34 xs) behind
+  cells : drop 12 front ≡ take 35 rest
+  cells = drop-take 12 35 (head ++ rest) ∙ ap (λ (xs : List ℕ). take 35 xs) behind
+
+  pub version_is : version_of front ≡ 2
+  version_is = ap (λ (gate : ℕ). if names_second gate then 2 else 1)
+      (sym (get_or-drop 12 front 34 1) ∙ ap (λ (xs : List ℕ). get_or xs 34 1) cells)
+
+  magic_none : magic_break front ≡ None
+  unfolding magic_break
+  magic_none =
+      ap (λ (v : ℕ). unlike_at 0 (magic_of v) front) version_is
+      ∙ sym (unlike_front 0 12 (take 7 magic) front (omega arith))
+      ∙ ap (λ (xs : List ℕ). unlike_at 0 (take 7 magic) xs) twelve
 
   pub zero_mark : cell_in front mark_cell ≡ record { value = 0; second = false }
   unfolding copy_of
@@ -100,41 +127,48 @@ module _ (slots : ℕ) where
       slots_none n is = grind (arith, nat_tests, is, some, most, fits)
 
 -- a file of these parts
-abbrev pub made_file : ℕ → List Bool → (mark floor : Cell) → List Message → SpoolFile
-made_file slots gates mark floor list = record { slots = slots; gates = gates; mark = mark; floor = floor; list = list }
+abbrev pub made_file : (version slots : ℕ) → List Bool → (mark floor : Cell) → List Message → SpoolFile
+made_file version slots gates mark floor list =
+    record { version = version; slots = slots; gates = gates; mark = mark; floor = floor; list = list }
 
 -- an empty file
-pub empty_stands : (bytes : List ℕ) (slots : ℕ) → front_in bytes ≡ take 46 (first_page slots) → 1 ≤ slots →
+pub empty_stands : (bytes : List ℕ) (slots : ℕ) → front_in bytes ≡ take 47 (first_page slots) → 1 ≤ slots →
     slots ≤ 65535 →
     slot_place slots ≤ length bytes → ((k : ℕ) → k < slots → is_open (slot_in bytes k) ≡ false) →
     StandsFor bytes (empty_file slots)
 empty_stands bytes slots is some most fits closed =
-    let front : front_in bytes ≡ take 46 ((magic ++ to_be_bytes w32 slots) ++ replicate 4084 0) =
-    is ∙ ap (λ (xs : List ℕ). take 46 xs) (page_is slots) in
+    let front : front_in bytes ≡ take 47 ((new_magic ++ to_be_bytes w32 slots) ++ rest) =
+    is ∙ ap (λ (xs : List ℕ). take 47 xs) (page_is slots) in
+    let version : version_in bytes ≡ 2 = ap version_of front ∙ version_is slots in
     let count : slots_in bytes ≡ slots = ap slots_of front ∙ slots_are slots (omega (arith, most)) in
     let slot = slot_in bytes in
-    let absent : (k : ℕ) → k < slots → stands_on (floor_in bytes) (slot k) ≡ false =
-    λ k below. closed_absent (floor_in bytes) (slot k) (closed k below) in
+    let frame = made_frame 2 slots 0 in
+    let absent : (k : ℕ) → k < slots → stands_on 0 (slot k) ≡ false =
+    λ k below. closed_absent 0 (slot k) (closed k below) in
+    let m = cell_in bytes mark_cell in
+    let f = cell_in bytes floor_cell in
     let mark = front_cell mark_cell front_size bytes (omega arith) ∙ ap (λ (f : List ℕ). cell_in f mark_cell) front
     ∙ zero_mark slots in
     let floor = front_cell floor_cell front_size bytes (omega arith) ∙ ap (λ (f : List ℕ). cell_in f floor_cell) front
     ∙ zero_floor slots in
+    let frame_is : frame_in bytes ≡ frame =
+    ap (λ (v : ℕ). made_frame v (slots_in bytes) (floor_in bytes)) version
+    ∙ ap (λ (n : ℕ). made_frame 2 n (floor_in bytes)) count ∙ ap (λ (c : Cell). made_frame 2 slots c.value) floor in
     record {
-      sound =
-          ap (λ (o : Option ℕ). or_else o (area_break (floor_in bytes) slot (slots_in bytes)))
+      sound = spool_sound bytes frame
           (ap (λ (f : List ℕ). front_break f (length bytes)) front ∙ front_none slots (length bytes) some most fits)
-          ∙ ap (λ (n : ℕ). area_break (floor_in bytes) slot n) count ∙ none_break (floor_in bytes) slot slots absent;
-      is =
-          sym (ap (λ (n : ℕ). made_file n (gates_below slot n) (cell_in bytes mark_cell) (cell_in bytes floor_cell)
-          (list_below (floor_in bytes) slot n)) count
-          ∙ ap (λ (gates : List Bool). made_file slots gates (cell_in bytes mark_cell) (cell_in bytes floor_cell)
-          (list_below (floor_in bytes) slot slots))
+          (sym frame_is) (none_break frame slot (inr refl) (full_in bytes slots fits) some absent);
+      is = sym (
+          ap (λ (v : ℕ). made_file v (slots_in bytes) (gates_below slot (slots_in bytes)) m f
+          (list_below (frame_in bytes) slot (slots_in bytes))) version
+          ∙ ap (λ (n : ℕ). made_file 2 n (gates_below slot n) m f (list_below (frame_in bytes) slot n)) count
+          ∙ ap (λ (gates : List Bool). made_file 2 slots gates m f (list_below (frame_in bytes) slot slots))
           (shut_gates slot slots closed)
-          ∙ ap (λ (list : List Message). made_file slots (replicate slots false) (cell_in bytes mark_cell)
-          (cell_in bytes floor_cell) list)
-          (none_held (floor_in bytes) slot slots absent)
-          ∙ ap (λ (c : Cell). made_file slots (replicate slots false) c (cell_in bytes floor_cell) []) mark
-          ∙ ap (λ (c : Cell). made_file slots (replicate slots false) zeroed c []) floor);
+          ∙ ap (λ (fr : Frame). made_file 2 slots (replicate slots false) m f (list_below fr slot slots)) frame_is
+          ∙ ap (λ (list : List Message). made_file 2 slots (replicate slots false) m f list)
+          (none_held frame slot absent)
+          ∙ ap (λ (c : Cell). made_file 2 slots (replicate slots false) c f []) mark
+          ∙ ap (λ (c : Cell). made_file 2 slots (replicate slots false) zeroed c []) floor);
     } where
       zeroed : Cell
       zeroed = record { value = 0; second = false }
@@ -205,9 +239,9 @@ stands_empty o p q r slots size sized some most fits page closes synced t told =
     let long : length s.0.now.bytes ≡ size = sized s.0 s.1 in
     let inside : 0 + length (first_page slots) ≤ length s.0.now.bytes =
     omega (arith, long, fits, some, page_long slots) in
-    let front : front_in v.0.now.bytes ≡ take 46 (first_page slots) =
+    let front : front_in v.0.now.bytes ≡ take 47 (first_page slots) =
     ap (λ (w : Story). front_in w.now.bytes) s.2
-    ∙ bytes_inside s.0.now.bytes (first_page slots) 0 inside 0 46 (omega (arith, page_long slots)) in
+    ∙ bytes_inside s.0.now.bytes (first_page slots) 0 inside 0 47 (omega (arith, page_long slots)) in
     let length_v : length v.0.now.bytes ≡ size = ap (λ (w : Story). length w.now.bytes) s.2
     ∙ length-part s.0.now.bytes (first_page slots) 0 inside ∙ long in
     subst (λ (w : Story). Ends w (empty_file slots)) (sym u.2) (record {

@@ -1,5 +1,8 @@
 pub mod Added
 pub mod Areas
+pub mod BodySizes
+pub mod Bounds
+pub mod Chains
 pub mod Contents
 pub mod Evens
 pub mod FileLooks
@@ -10,7 +13,15 @@ pub mod Gapless
 pub mod Gates
 pub mod Lists
 pub mod Making
+pub mod Others
 pub mod Runs
+pub mod Scans
+pub mod Sound
 pub mod Starts
 pub mod Stretches
+pub mod Sums
+pub mod Upgraded
+pub mod Wholes
+pub mod Windows
+pub mod WorkedFiles
 pub mod Written

@@ -1,24 +1,17 @@
 -- Chains of numbers, and the slots that hold them, whatever a message takes.
-use Rattle.std.proofs.Common.{◌≡◌, ℕ, zero, suc, ◌+◌, ◌*◌, ◌/◌, ◌%◌, ◌<◌, ◌≤◌, ◌⊎◌, ◌==◌, Bool, true, false, if◌then◌else◌, List, [], ◌∷◌, ◌++◌, length, Some, refl, sym, ap, subst, ◌∙◌, arith, inl, inr}
+use Rattle.std.proofs.Common.{◌≡◌, ℕ, zero, suc, ◌+◌, ◌*◌, ◌/◌, ◌%◌, ◌<◌, ◌≤◌, ◌⊎◌, Bool, true, false, List, [], ◌∷◌, ◌++◌, length, Some, refl, sym, ap, subst, ◌∙◌, arith, inl, inr}
 use Rattle.std.proofs.lemmas.Bool.{cases_lt}
-use Rattle.std.proofs.lemmas.Bool.Decides.{nat_tests}
 use Rattle.std.proofs.lemmas.Nat.{div-add-mod', mul-le}
 use Rattle.std.specs.List.{slice_get}
-use Rattle.spool_file.specs.Area.{messages_below}
-use Rattle.spool_file.specs.Run.{IsChainFrom, slots_for, width}
-use Rattle.spool_file.specs.Slot.{Message}
+use Rattle.spool_file.specs.Area.{messages_below, next_of}
+use Rattle.spool_file.specs.Run.{IsChainFrom}
+use Rattle.spool_file.specs.Slot.{Message, width}
 use Rattle.spool_file.proofs.Areas.{Each, each_made, each_so, each_there}
+use Rattle.spool_file.proofs.BodySizes.{some_slots}
 
 -- ---- lists
 
 -- a message takes at least one slot
-some_slots : (long : ℕ) → 1 ≤ slots_for long
-unfolding slots_for
-some_slots long = by_test (long == 0) refl where
-  by_test : (b : Bool) → (long == 0) ≡ b → 1 ≤ (if b then 1 else (long + 4080) / 4081)
-  by_test true is = omega arith
-  by_test false is = let some : 1 ≤ long = grind (arith, nat_tests, is) in omega (arith, some)
-
 pub some_width : (m : Message) → 1 ≤ width m
 some_width m = some_slots (length m.body)
 
@@ -46,6 +39,23 @@ pub chain_last : (first next : ℕ) (list : List Message) (m : Message) → IsCh
     IsChainFrom first (next + width m) (list ++ m ∷ [])
 chain_last first next [] m chain is = (is ∙ sym chain, ap (λ (n : ℕ). n + width m) chain)
 chain_last first next (x ∷ list) m chain is = (chain.0, chain_last (first + width x) next list m chain.1 is)
+
+-- its second number is the one behind the last message, and together they take as many as lie between
+pub chain_next : (first next : ℕ) (list : List Message) → IsChainFrom first next list → next ≡ next_of first list
+chain_next first next [] chain = sym chain
+chain_next first next (x ∷ list) chain =
+    chain_next (first + width x) next list chain.1
+    ∙ ap (λ (n : ℕ). next_of (n + width x) list) (sym chain.0)
+
+abbrev pub total : List Message → ℕ
+total [] = 0
+total (x ∷ list) = width x + total list
+
+pub chain_total : (first next : ℕ) (list : List Message) → IsChainFrom first next list → next ≡ first + total list
+chain_total first next [] chain = omega (arith, chain)
+chain_total first next (x ∷ list) chain =
+    let rest : next ≡ first + width x + total list = chain_total (first + width x) next list chain.1 in
+    omega (arith, rest)
 
 -- ---- places
 

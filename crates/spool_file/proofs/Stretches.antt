@@ -1,5 +1,5 @@
 -- Reads, and more reads.
-use Rattle.std.proofs.Common.{◌≡◌, ◌⊎◌, ℕ, zero, suc, ◌*◌, ◌/◌, subst, ◌+◌, ◌<◌, ◌≤◌, inl, inr, List, [], ◌∷◌, ◌++◌}
+use Rattle.std.proofs.Common.{◌≡◌, ◌⊎◌, ℕ, zero, suc, subst, ◌+◌, ◌<◌, ◌≤◌, inl, inr, List, [], ◌∷◌, ◌++◌}
 use Rattle.std.proofs.Common.{get_or, length-append, append_assoc, append-nil, Option, Some, None, refl, sym, ap, ◌∙◌}
 use Rattle.std.proofs.Common.{arith}
 use Rattle.std.proofs.lemmas.Bool.{cases_eq}
@@ -12,10 +12,9 @@ use Rattle.disk_base.specs.declared.disk.CallKind.TheVariants.{Read}
 use Rattle.disk_base.specs.declared.disk.DiskAnswer.{DiskAnswer}
 use Rattle.disk_base.specs.declared.disk.DiskAnswer.TheVariants.{Done, Failed}
 use Rattle.disk_base.proofs.Stretches.{cause_behind, fault_wider, used_none}
-use Rattle.spool_file.specs.Logs.{LogsAll, MakesAll}
+use Rattle.spool_file.specs.Logs.{LogsAll, MakesAll, calls_below}
 use Rattle.spool_file.specs.Reading.{FrontSays, reading_answer}
-use Rattle.spool_file.specs.Reads.{HasRead, start_look, start_looks}
-use Rattle.spool_file.specs.Slot.{slot_place}
+use Rattle.spool_file.specs.Reads.{HasRead, looks_at, start_look}
 use Rattle.spool_file.specs.declared.front.Front.{Front}
 use Rattle.spool_file.specs.declared.reading.Reading.{Reading}
 use Rattle.spool_file.specs.declared.reading.Reading.TheVariants as reading
@@ -136,11 +135,6 @@ pub read_from : {a b : DiskHealth} {k l m : Option (List DiskCall)} {most : ℕ}
 read_from {a} {b} {k} {l} {m} {most} {answer} same is =
     subst (λ (o : Option (List DiskCall)). HasRead a b o m most answer) same is
 
-pub most_same : {a b : DiskHealth} {k l : Option (List DiskCall)} {size old : ℕ} {answer : DiskAnswer} → size ≡ old →
-    HasRead a b k l (2 * (size / 4096) + 1) answer → HasRead a b k l (2 * (old / 4096) + 1) answer
-most_same {a} {b} {k} {l} {size} {old} {answer} same is =
-    subst (λ n. HasRead a b k l (2 * (n / 4096) + 1) answer) same is
-
 -- a reading of the front that isn't a fault of the disk
 pub front_looked : (front : List ℕ) (size : ℕ) (r : Reading Front) {a b : DiskHealth} {k l : Option (List DiskCall)}
     {calls : List DiskCall} →
@@ -149,49 +143,69 @@ front_looked front size (reading.Whole found) says is = is
 front_looked front size (reading.Broken break) says is = is
 front_looked front size reading.Failed says is = absurd says
 
--- a file has room for no more slots than pages
-pub slots_fit : (slots size : ℕ) → slot_place slots ≤ size → slots ≤ size / 4096
-slots_fit slots size fits = omega (arith, fits)
+-- the calls of some first steps, and of one more
+module _ (calls : ℕ → List DiskCall) where
+  pub calls_on : (n : ℕ) → calls_below calls (n + 1) ≡ calls_below calls n ++ calls n
+  calls_on n = let more : n + 1 ≡ suc n = omega arith in ap (calls_below calls) more
 
--- the reads of some first slots, and of one more
-pub looks_on : (n : ℕ) → start_looks (n + 1) ≡ start_looks n ++ start_look n
-looks_on n = let more : n + 1 ≡ suc n = omega arith in ap start_looks more
+  calls_among : (k n : ℕ) → (k ≡ n) ⊎ (k ≡ n → ⊥) → k < suc n →
+      (k < n → (rest : List DiskCall) × (calls_below calls n ≡ (calls_below calls k ++ calls k) ++ rest)) →
+      (rest : List DiskCall) × (calls_below calls (suc n) ≡ (calls_below calls k ++ calls k) ++ rest)
+  calls_among k n (inl same) below before = (
+    [],
+    ap (λ (i : ℕ). calls_below calls i ++ calls i) (sym same) ∙ sym (append-nil (calls_below calls k ++ calls k)),
+  )
+  calls_among k n (inr other) below before =
+      let r = before (grind (arith, below, other)) in (
+        r.0 ++ calls n,
+        ap (λ (all : List DiskCall). all ++ calls n) r.1
+            ∙ append_assoc (calls_below calls k ++ calls k) r.0 (calls n),
+      )
 
-looks_among : (k n : ℕ) → (k ≡ n) ⊎ (k ≡ n → ⊥) → k < suc n →
-    (k < n → (rest : List DiskCall) × (start_looks n ≡ (start_looks k ++ start_look k) ++ rest)) →
-    (rest : List DiskCall) × (start_looks (suc n) ≡ (start_looks k ++ start_look k) ++ rest)
-looks_among k n (inl same) below before =
-    ([], ap (λ (i : ℕ). start_looks i ++ start_look i) (sym same) ∙ sym (append-nil (start_looks k ++ start_look k)))
-looks_among k n (inr other) below before =
-    let r = before (grind (arith, below, other)) in (
-      r.0 ++ start_look n,
-      ap (λ (calls : List DiskCall). calls ++ start_look n) r.1
-          ∙ append_assoc (start_looks k ++ start_look k) r.0 (start_look n),
-    )
+  -- they are the first ones of all
+  pub calls_first : (k n : ℕ) → k < n →
+      (rest : List DiskCall) × (calls_below calls n ≡ (calls_below calls k ++ calls k) ++ rest)
+  calls_first k zero below = absurd (omega (arith, below))
+  calls_first k (suc n) below = calls_among k n (cases_eq k n) below (calls_first k n)
 
--- they are the first ones of all
-pub looks_first : (k n : ℕ) → k < n → (rest : List DiskCall) × (start_looks n ≡ (start_looks k ++ start_look k) ++ rest)
-looks_first k zero below = absurd (omega (arith, below))
-looks_first k (suc n) below = looks_among k n (cases_eq k n) below (looks_first k n)
+  pub calls_to : {a b : DiskHealth} {k l : Option (List DiskCall)} {answer : DiskAnswer} (n all : ℕ) → n ≡ all →
+      MakesAll a b k l (calls_below calls n) answer → MakesAll a b k l (calls_below calls all) answer
+  calls_to {a} {b} {k} {l} {answer} n all same is = subst (λ i. MakesAll a b k l (calls_below calls i) answer) same is
 
-pub looks_to : {a b : DiskHealth} {k l : Option (List DiskCall)} {answer : DiskAnswer} (n slots : ℕ) → n ≡ slots →
-    MakesAll a b k l (start_looks n) answer → MakesAll a b k l (start_looks slots) answer
-looks_to {a} {b} {k} {l} {answer} n slots same is = subst (λ i. MakesAll a b k l (start_looks i) answer) same is
+  module _ (a b c : DiskHealth) (k l m : Option (List DiskCall)) where
+    pub one_more_step : (n : ℕ) (answer : DiskAnswer) → MakesAll a b k l (calls_below calls n) Done →
+        MakesAll b c l m (calls n) answer → MakesAll a c k m (calls_below calls (n + 1)) answer
+    one_more_step n answer first second =
+        subst (λ (all : List DiskCall). MakesAll a c k m all answer) (sym (calls_on n))
+        (makes_then a b c k l m (calls_below calls n) (calls n) answer first second)
 
-module _ (a b c : DiskHealth) (k l m : Option (List DiskCall)) where
-  pub one_more_look : (n : ℕ) (answer : DiskAnswer) → MakesAll a b k l (start_looks n) Done →
-      MakesAll b c l m (start_look n) answer →
-      MakesAll a c k m (start_looks (n + 1)) answer
-  one_more_look n answer first second =
-      subst (λ (calls : List DiskCall). MakesAll a c k m calls answer) (sym (looks_on n))
-      (makes_then a b c k l m (start_looks n) (start_look n) answer first second)
+    -- those of all, up to one that failed
+    pub some_steps : (n all : ℕ) → n < all → MakesAll a b k l (calls_below calls n) Done →
+        MakesAll b c l m (calls n) Failed → MakesAll a c k m (calls_below calls all) Failed
+    some_steps n all below first second =
+        let rest = calls_first n all below in
+        subst (λ (all : List DiskCall). MakesAll a c k m all Failed) (sym rest.1)
+        (makes_before a c k m (calls_below calls n ++ calls n) rest.0
+        (makes_then a b c k l m (calls_below calls n) (calls n) Failed first second))
 
-  -- the reads of all, up to one that failed
-  pub some_looks : (n slots : ℕ) → n < slots → MakesAll a b k l (start_looks n) Done →
-      MakesAll b c l m (start_look n) Failed →
-      MakesAll a c k m (start_looks slots) Failed
-  some_looks n slots below first second =
-      let all = looks_first n slots below in
-      subst (λ (calls : List DiskCall). MakesAll a c k m calls Failed) (sym all.1)
-      (makes_before a c k m (start_looks n ++ start_look n) all.0
-      (makes_then a b c k l m (start_looks n) (start_look n) Failed first second))
+-- the reads of the slots at some first places
+module _ (slot_of : ℕ → ℕ) where
+  abbrev look : ℕ → List DiskCall
+  look n = start_look (slot_of n)
+
+  pub looks_to : {a b : DiskHealth} {k l : Option (List DiskCall)} {answer : DiskAnswer} (n all : ℕ) → n ≡ all →
+      MakesAll a b k l (looks_at slot_of n) answer → MakesAll a b k l (looks_at slot_of all) answer
+  looks_to {a} {b} {k} {l} {answer} n all same is = subst (λ i. MakesAll a b k l (looks_at slot_of i) answer) same is
+
+  module _ (a b c : DiskHealth) (k l m : Option (List DiskCall)) where
+    pub one_more_look : (n j : ℕ) (answer : DiskAnswer) → j ≡ slot_of n → MakesAll a b k l (looks_at slot_of n) Done →
+        MakesAll b c l m (start_look j) answer → MakesAll a c k m (looks_at slot_of (n + 1)) answer
+    one_more_look n j answer is first second =
+        one_more_step look a b c k l m n answer first
+        (subst (λ (i : ℕ). MakesAll b c l m (start_look i) answer) is second)
+
+    pub some_looks : (n j all : ℕ) → j ≡ slot_of n → n < all → MakesAll a b k l (looks_at slot_of n) Done →
+        MakesAll b c l m (start_look j) Failed → MakesAll a c k m (looks_at slot_of all) Failed
+    some_looks n j all is below first second =
+        some_steps look a b c k l m n all below first
+        (subst (λ (i : ℕ). MakesAll b c l m (start_look i) Failed) is second)

@@ -1,33 +1,12 @@
 -- A spool file: what bytes stand for, which is all of it that a loss of power keeps (this profile).
-use Rattle.std.specs.Prelude.{◌≡◌, ℕ, zero, suc, ◌+◌, ◌%◌, Bool, false, List, [], ◌∷◌, ◌++◌, length, get_or, Option}
-use Rattle.std.specs.Prelude.{None}
+use Rattle.std.specs.Prelude.{◌≡◌, ℕ, zero, suc, ◌%◌, Bool, false, List, [], ◌∷◌, ◌++◌, length, get_or, Option, None}
 use Rattle.disk_base.specs.Story.{Story}
 use Rattle.gate_cell.specs.Cell.{Cell, cell_in}
-use Rattle.spool_file.specs.Area.{first_at, first_of, messages_below, or_else}
-use Rattle.spool_file.specs.Front.{floor_cell, front_break, front_in, mark_cell, slots_of}
-use Rattle.spool_file.specs.Slot.{Message, Slot, ahead_break, in_slot, is_open, message_of, slot_break, slot_in}
-use Rattle.spool_file.specs.Slot.{stands_on}
-
--- a slot holds a message where it stands, and which one it holds
-abbrev pub slot_stands : ℕ → (ℕ → Slot) → ℕ → Bool
-slot_stands floor slot k = stands_on floor (slot k)
-
-abbrev pub slot_message : (ℕ → Slot) → ℕ → Message
-slot_message slot k = message_of (slot k)
-
--- the list that the first n slots stand for
-abbrev pub list_below : ℕ → (ℕ → Slot) → ℕ → List Message
-list_below floor slot n = messages_below (slot_stands floor slot) (slot_message slot) n
-
--- the number behind those of a list without gaps, whose messages take a slot each
-abbrev pub end_of : ℕ → List Message → ℕ
-end_of floor list = first_of floor list + length list
-
--- where the first n slots break
-abbrev pub area_break : ℕ → (ℕ → Slot) → ℕ → Option ℕ
-area_break floor slot n =
-    or_else (first_at (λ k. in_slot k (slot_break floor n k (slot k))) n)
-    (first_at (λ k. in_slot k (ahead_break floor (end_of floor (list_below floor slot n)) (slot k))) n)
+use Rattle.spool_file.specs.Area.{or_else}
+use Rattle.spool_file.specs.Breaks.{area_break, list_below}
+use Rattle.spool_file.specs.Front.{floor_cell, front_break, front_in, mark_cell, slots_of, version_of}
+use Rattle.spool_file.specs.Slot.{Message, Slot, is_open, slot_in}
+use Rattle.spool_file.specs.declared.slot.Frame.{Frame}
 
 abbrev pub slots_in : List ℕ → ℕ
 slots_in bytes = slots_of (front_in bytes)
@@ -35,20 +14,26 @@ slots_in bytes = slots_of (front_in bytes)
 abbrev pub floor_in : List ℕ → ℕ
 floor_in bytes = (cell_in bytes floor_cell).value
 
+abbrev pub version_in : List ℕ → ℕ
+version_in bytes = version_of (front_in bytes)
+
+abbrev pub frame_in : List ℕ → Frame
+frame_in bytes = record { version = version_in bytes; slots = slots_in bytes; floor = floor_in bytes }
+
 -- the first place at which bytes aren't a spool file
 abbrev pub spool_break : List ℕ → Option ℕ
 spool_break bytes =
-    or_else (front_break (front_in bytes) (length bytes))
-    (area_break (floor_in bytes) (slot_in bytes) (slots_in bytes))
+    or_else (front_break (front_in bytes) (length bytes)) (area_break (frame_in bytes) (slot_in bytes))
 
 -- of each of the first n slots, whether it is open
 abbrev pub gates_below : (ℕ → Slot) → ℕ → List Bool
 gates_below slot zero = []
 gates_below slot (suc k) = gates_below slot k ++ is_open (slot k) ∷ []
 
--- how many slots there are, which of them are open, mark and floor with the copies that have them, and the messages by
--- number
+-- the version, how many slots there are, which of them are open, mark and floor with the copies that have them, and the
+-- messages by number
 pub record SpoolFile : Type 0 where
+  pub version : ℕ
   pub slots : ℕ
   pub gates : List Bool
   pub mark : Cell
@@ -58,11 +43,12 @@ pub record SpoolFile : Type 0 where
 -- what bytes stand for if they stand for anything
 abbrev pub file_in : List ℕ → SpoolFile
 file_in bytes = record {
+  version = version_in bytes;
   slots = slots_in bytes;
   gates = gates_below (slot_in bytes) (slots_in bytes);
   mark = cell_in bytes mark_cell;
   floor = cell_in bytes floor_cell;
-  list = list_below (floor_in bytes) (slot_in bytes) (slots_in bytes);
+  list = list_below (frame_in bytes) (slot_in bytes) (slots_in bytes);
 }
 
 -- whether the slot of a number is open; where it holds no message, its gate is stale

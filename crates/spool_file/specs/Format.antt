@@ -1,19 +1,25 @@
 -- A new spool file, and what making it does (this profile).
-use Rattle.std.specs.Prelude.{◌≡◌, ℕ, ◌<◌, false, List, [], ◌++◌, length, replicate, Option, Some}
+use Rattle.std.specs.Prelude.{◌≡◌, ℕ, ◌<◌, false, List, [], ◌∷◌, ◌++◌, length, replicate, Option, Some}
 use Rattle.std.specs.Int.{w32, to_be_bytes}
 use Rattle.disk_base.specs.Story.{Story}
 use Rattle.disk_base.specs.declared.disk.DiskAnswer.{DiskAnswer}
 use Rattle.disk_base.specs.declared.disk.DiskAnswer.TheVariants.{Done, Failed}
 use Rattle.spool_file.specs.File.{Ends, SpoolFile}
-use Rattle.spool_file.specs.Front.{front_in, magic}
+use Rattle.spool_file.specs.Front.{front_in}
 use Rattle.spool_file.specs.Slot.{is_open, slot_in}
 
--- what stands before the slots of a new file, and the file
+-- "GLSPOOL2"
+abbrev pub new_magic : List ℕ
+new_magic = 71 ∷ 76 ∷ 83 ∷ 80 ∷ 79 ∷ 79 ∷ 76 ∷ 50 ∷ []
+
+-- what stands before the slots of a new file: its name, how many slots there are, mark 0 and floor 0, the gate that
+-- says version 2, and zeros; and the file
 unfoldable pub first_page : ℕ → List ℕ
-first_page slots = magic ++ to_be_bytes w32 slots ++ replicate 4084 0
+first_page slots = new_magic ++ to_be_bytes w32 slots ++ replicate 34 0 ++ (1 ∷ []) ++ replicate 4049 0
 
 abbrev pub empty_file : ℕ → SpoolFile
 empty_file slots = record {
+  version = 2;
   slots = slots;
   gates = replicate slots false;
   mark = record { value = 0; second = false };

@@ -1,5 +1,7 @@
 pub mod Added
 pub mod Area
+pub mod Breaks
+pub mod Chain
 pub mod File
 pub mod Format
 pub mod Front
@@ -7,4 +9,6 @@ pub mod Logs
 pub mod Reading
 pub mod Reads
 pub mod Run
+pub mod Sizes
 pub mod Slot
+pub mod Worked

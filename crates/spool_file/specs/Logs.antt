@@ -1,5 +1,5 @@
 -- Some calls of a disk in a row, up to the first that fails (this profile).
-use Rattle.std.specs.Prelude.{◌≡◌, ◌⊎◌, ℕ, ◌+◌, ◌<◌, List, [], ◌∷◌, length, Option}
+use Rattle.std.specs.Prelude.{◌≡◌, ◌⊎◌, ℕ, zero, suc, ◌+◌, ◌<◌, List, [], ◌∷◌, ◌++◌, length, Option}
 use Rattle.disk_base.specs.Calls.{DiskCall, Logs, with_call}
 use Rattle.disk_base.specs.Faults.{DiskHealth, HasCause, IsLeftOut}
 use Rattle.disk_base.specs.declared.disk.DiskAnswer.{DiskAnswer}
@@ -8,6 +8,11 @@ use Rattle.disk_base.specs.declared.disk.DiskAnswer.TheVariants.{Done, Failed}
 -- the same call with another answer
 abbrev pub answered : DiskCall → DiskAnswer → DiskCall
 answered call answer = record call { answer = answer }
+
+-- the calls of the first n steps, each of which has its own
+abbrev pub calls_below : (ℕ → List DiskCall) → ℕ → List DiskCall
+calls_below calls zero = []
+calls_below calls (suc n) = calls_below calls n ++ calls n
 
 -- how many bytes calls write
 abbrev pub written_by : List DiskCall → ℕ

@@ -1,14 +1,6 @@
 -- Lists of messages whose numbers have no gap (this profile).
-use Rattle.std.specs.Prelude.{◌≡◌, ℕ, ◌+◌, ◌/◌, ◌==◌, if◌then◌else◌, List, [], ◌∷◌, length}
-use Rattle.spool_file.specs.Slot.{Message}
-
--- how many slots a body of this length takes: each has room for 4,081 bytes of it, and each message has one
-unfoldable pub slots_for : ℕ → ℕ
-slots_for long = if long == 0 then 1 else (long + 4080) / 4081
-
--- how many numbers a message takes, the first of which is its own: one a slot
-abbrev pub width : Message → ℕ
-width message = slots_for (length message.body)
+use Rattle.std.specs.Prelude.{◌≡◌, ℕ, ◌+◌, List, [], ◌∷◌}
+use Rattle.spool_file.specs.Slot.{Message, width}
 
 -- the first message has the first of two numbers, each other one the number behind those of the one before it, and the
 -- second number is the one behind all

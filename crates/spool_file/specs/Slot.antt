@@ -1,10 +1,11 @@
--- A slot of the spool file, and the message in it (this profile).
-use Rattle.std.specs.Prelude.{ℕ, ◌+◌, ◌*◌, ◌^◌, ◌%◌, ◌==◌, Bool, ◌&&◌, nat_le, nat_lt, not, if◌then◌else◌, List, take}
-use Rattle.std.specs.Prelude.{drop}
-use Rattle.std.specs.Prelude.{slice_index, Option, Some, None}
+-- A slot of the spool file, and the message whose head it has (this profile).
+use Rattle.std.specs.Prelude.{ℕ, zero, suc, ◌+◌, ◌*◌, ◌^◌, ◌%◌, ◌-◌, ◌==◌, Bool, ◌&&◌, nat_le, nat_lt, not}
+use Rattle.std.specs.Prelude.{if◌then◌else◌, List, [], ◌++◌, length, take, drop, slice_index, Option, Some, None}
 use Rattle.std.specs.Int.{w32, w64, from_be_bytes}
 use Rattle.std.specs.Option.{option_map}
 use Rattle.disk_base.specs.Story.{bytes_at}
+use Rattle.spool_file.specs.Sizes.{is_too_long, slots_for}
+use Rattle.spool_file.specs.declared.slot.Frame.{Frame}
 use Rattle.spool_file.specs.declared.slot.SlotHead.{SlotHead}
 
 -- where slot k begins
@@ -49,30 +50,42 @@ pub record Message : Type 0 where
   pub function : ℕ
   pub body : List ℕ
 
-abbrev pub message_of : Slot → Message
-message_of slot = record {
+-- how many numbers a message takes, the first of which is its own: one a slot
+abbrev pub width : Message → ℕ
+width message = slots_for (length message.body)
+
+-- the areas of so many slots in a row, from that of a number on, in a file of so many slots
+abbrev pub areas_from : (slots : ℕ) → (ℕ → Slot) → (number more : ℕ) → List ℕ
+areas_from slots slot number zero = []
+areas_from slots slot number (suc more) =
+    (slot (number % slots)).area ++ areas_from slots slot (number + 1) more
+
+-- the message whose head is in a slot, and whose body goes on so behind the slot's area
+abbrev pub message_of : Slot → List ℕ → Message
+message_of slot further = record {
   number = slot.head.number;
   stream = slot.head.stream;
   function = slot.head.function;
-  body = take slot.head.len slot.area;
+  body = take slot.head.len (slot.area ++ further);
 }
 
+-- that of slot k: each further piece of the body is in the slot of the next number
+abbrev pub slot_message : (slots : ℕ) → (ℕ → Slot) → ℕ → Message
+slot_message slots slot k =
+    message_of (slot k) (areas_from slots slot ((slot k).head.number + 1) (slots_for (slot k).head.len - 1))
+
 -- where the fields of a slot k that stands break, as a place in the slot
-abbrev pub head_break : ℕ → ℕ → SlotHead → Option ℕ
-head_break slots k head =
-    if nat_lt 4081 head.len then Some 11
-    else (if not (head.number % slots == k) then Some 1
-    else (if nat_le (2 ^ 63) head.number then Some 1
+abbrev pub head_break : Frame → ℕ → SlotHead → Option ℕ
+head_break frame k head =
+    if is_too_long frame.version frame.slots head.len then Some 11
+    else (if not (head.number % frame.slots == k) then Some 1
+    else (if nat_lt (2 ^ 63 - slots_for head.len) head.number then Some 1
     else (if head.function % 2 == 0 then Some 10
     else None)))
 
 -- no other one breaks
-abbrev pub slot_break : (floor slots k : ℕ) → Slot → Option ℕ
-slot_break floor slots k slot = if stands_on floor slot then head_break slots k slot.head else None
-
--- where a slot that stands has a number at or behind an end
-abbrev pub ahead_break : (floor end : ℕ) → Slot → Option ℕ
-ahead_break floor end slot = if stands_on floor slot && nat_le end slot.head.number then Some 1 else None
+abbrev pub slot_break : Frame → ℕ → Slot → Option ℕ
+slot_break frame k slot = if stands_on frame.floor slot then head_break frame k slot.head else None
 
 -- a place in slot k as one in the file
 abbrev pub in_slot : ℕ → Option ℕ → Option ℕ

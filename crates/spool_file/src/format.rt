@@ -7,24 +7,29 @@ ghost use Rattle.spool_file.specs.Added.{OnlyAdds, WritesOrSyncs};
 ghost use Rattle.spool_file.specs.Format.{ClosesSlots, StandsEmpty, first_page as page_of};
 ghost use Rattle.spool_file.specs.Slot.{slot_place as place_of};
 
-use crate::front::MAGIC;
 use crate::slot::{CLOSED, SLOT_SIZE};
 use crate::slots::slot_place;
 use arrayvec::ArrayVec;
 use disk_base::{Disk, DiskAnswer};
 
+// The name at the start of a new file.
+const NEW_MAGIC: [u8; 8] = [0x47, 0x4C, 0x53, 0x50, 0x4F, 0x4F, 0x4C, 0x32];
+
 /// What stands before the slots.
 pub type Page = ArrayVec<u8, SLOT_SIZE>;
 
-/// The first page of a new file: its name, how many slots there are, and zeros, which are mark 0 and floor 0.
+/// The first page of a new file: its name, how many slots there are, zeros, which are mark 0 and floor 0, and the gate
+/// that says version 2.
 #[tactic(auto, unfolding(crate::specs::Format::first_page))]
 pub fn first_page(slots: u32) -> Page
     ensures { result.items ≡ page_of slots }
 {
     let mut page = Page::new();
-    page.try_extend_from_slice(&MAGIC).unwrap();
+    page.try_extend_from_slice(&NEW_MAGIC).unwrap();
     page.try_extend_from_slice(&slots.to_be_bytes()).unwrap();
-    page.try_extend_from_slice(&[0; 4084]).unwrap();
+    page.try_extend_from_slice(&[0; 34]).unwrap();
+    page.try_extend_from_slice(&[1]).unwrap();
+    page.try_extend_from_slice(&[0; 4049]).unwrap();
     page
 }
 

@@ -1,22 +1,32 @@
 //! What stands in front of the slots, tested byte by byte: the name, the number of slots, the mark and the floor.
 
-ghost use Rattle.std.specs.Prelude.{◌≡◌, ℕ, ◌+◌, ◌<◌, ◌≤◌, List, Option, Some, IfSome, length, min};
+ghost use Rattle.std.specs.Prelude.{◌≡◌, ◌⊎◌, ℕ, ◌+◌, ◌<◌, ◌≤◌, List, Option, Some, IfSome, length, min};
 ghost use Rattle.std.specs.List.{slice_get};
 ghost use Rattle.disk_base.specs.SameDisk.{IsSameDisk};
 ghost use Rattle.disk_base.specs.Story.{bytes_at};
 ghost use Rattle.gate_cell.specs.Cell.{cell_in};
 ghost use Rattle.spool_file.specs.Front.{cell_break as wrong_cell, front_in, magic_break as wrong_magic, unlike_at};
+ghost use Rattle.spool_file.specs.Front.{version_of as version_in};
 ghost use Rattle.spool_file.specs.Logs.{MakesAll};
 ghost use Rattle.spool_file.specs.Reading.{FrontFits, FrontIs, FrontSays, reading_answer};
 ghost use Rattle.spool_file.specs.Reads.{front_look};
 
 use crate::reading::{NotSpool, Reading};
+use crate::slot::Frame;
 use crate::slots::slot_place;
 use disk_base::{Disk, DiskAnswer};
 use gate_cell::{counting_place, value_of};
 
-/// The name at the start of such files.
+/// The name at the start of a file of version 1. In one of version 2 its last byte says nothing.
 pub const MAGIC: [u8; 8] = [0x47, 0x4C, 0x53, 0x50, 0x4F, 0x4F, 0x4C, 0x31];
+
+const NAME: [u8; 7] = [0x47, 0x4C, 0x53, 0x50, 0x4F, 0x4F, 0x4C];
+
+/// Where the gate of the version is: an odd one says version 2.
+pub const VERSION_GATE: u64 = 46;
+
+// How many bytes are tested in front of the slots.
+const FRONT: usize = 47;
 
 /// The most slots of a file.
 pub const SLOTS_MOST: u32 = 65_535;
@@ -36,15 +46,13 @@ pub const FLOOR_MOST: u64 = 1 << 63;
 /// What stands in front of the slots.
 #[derive(Clone, Copy, Debug)]
 pub struct Front {
-    pub slots: u32,
+    pub frame: Frame,
     pub mark: u64,
-    /// No message has a lower number.
-    pub floor: u64,
 }
 
 // The place of the first byte that isn't as wanted, or isn't there.
 fn unlike(wanted: &[u8], bytes: &[u8]) -> Option<usize>
-    requires { length bytes.now ≤ 46 }
+    requires { length bytes.now ≤ 47 }
     ensures place { result ≡ unlike_at 0 wanted.now bytes.now }
     ensures bound { IfSome result (λ place. place < length wanted.now) }
 {
@@ -78,7 +86,7 @@ fn cell_break(front: &[u8], at: u64, most: u64) -> Option<usize>
     requires within { at + 17 ≤ length front.now }
     requires place { at ≤ 29 }
     ensures place { result ≡ wrong_cell at most (cell_in front.now at) }
-    ensures bound { IfSome result (λ place. place < 46) }
+    ensures bound { IfSome result (λ place. place < 47) }
 {
     let cell = cell_at(front, at);
     if value_of(cell) > most {
@@ -87,14 +95,29 @@ fn cell_break(front: &[u8], at: u64, most: u64) -> Option<usize>
     None
 }
 
-// The first byte of the name of such files that isn't as it is to be.
+// The version that the front's bytes say: 1 where its gate is even, and 2 where the gate is odd or isn't there.
+fn version_of(front: &[u8]) -> u8
+    ensures version { result ≡ version_in front.now }
+    ensures range { (result ≡ 1) ⊎ (result ≡ 2) }
+{
+    match front.get(46) {
+        None => 2,
+        Some(gate) => { if *gate % 2 == 1 { 2 } else { 1 } }
+    }
+}
+
+// The first byte of the name of such files that isn't as it is to be, by their version.
 #[tactic(auto, unfolding(crate::specs::Front::magic_break))]
 fn magic_break(front: &[u8]) -> Option<usize>
-    requires { length front.now ≤ 46 }
+    requires { length front.now ≤ 47 }
     ensures place { result ≡ wrong_magic front.now }
-    ensures bound { IfSome result (λ place. place < 46) }
+    ensures bound { IfSome result (λ place. place < 47) }
 {
-    unlike(&MAGIC, front)
+    if version_of(front) == 1 {
+        unlike(&MAGIC, front)
+    } else {
+        unlike(&NAME, front)
+    }
 }
 
 fn byte_at(bytes: &[u8], at: usize) -> Option<u8>
@@ -105,7 +128,7 @@ fn byte_at(bytes: &[u8], at: usize) -> Option<u8>
 
 // A break with the byte at its place, in the front.
 fn break_at(front: &[u8], at: usize) -> NotSpool
-    requires { at < 46 }
+    requires { at < 47 }
     ensures at { result.at ≡ at }
     ensures got { (bytes : List ℕ) → front.now ≡ front_in bytes → result.got ≡ slice_get bytes at }
 {
@@ -129,7 +152,7 @@ fn end_break(size: u64) -> NotSpool
 // What the front's bytes say.
 #[tactic(auto, unfolding(crate::specs::Front::front_break))]
 fn front_of(front: &[u8], size: u64) -> Reading<Front>
-    requires { length front.now ≡ min 46 size }
+    requires { length front.now ≡ min 47 size }
     ensures front { FrontSays front.now size result }
     ensures fits { FrontFits size result }
 {
@@ -159,16 +182,19 @@ fn front_of(front: &[u8], size: u64) -> Reading<Front>
         None => {}
     }
     Reading::Whole(Front {
-        slots,
+        frame: Frame {
+            version: version_of(front),
+            slots,
+            floor: value_of(cell_at(front, FLOOR_CELL)),
+        },
         mark: value_of(cell_at(front, MARK_CELL)),
-        floor: value_of(cell_at(front, FLOOR_CELL)),
     })
 }
 
 // Reads the front, which has so many bytes.
 fn read_into<D: Disk>(disk: &mut D, size: u64, front: &mut [u8]) -> Reading<Front>
     requires size { size ≡ D.size_is disk.old }
-    requires long { length front.old ≡ min 46 size }
+    requires long { length front.old ≡ min 47 size }
     ensures front { FrontIs (D.told disk.old) result }
     ensures fits { FrontFits (D.size_is disk.old) result }
     ensures told { D.told disk.new ≡ D.told disk.old }
@@ -195,7 +221,7 @@ pub fn read_front<D: Disk>(disk: &mut D) -> Reading<Front>
     ensures same_disk { IsSameDisk D.Disk disk.old disk.new }
 {
     let size = disk.size();
-    let mut bytes = [0; 46];
-    let known = size.min(46) as usize;
+    let mut bytes = [0; FRONT];
+    let known = size.min(FRONT as u64) as usize;
     read_into(disk, size, &mut bytes[..known])
 }

@@ -10,10 +10,11 @@ use crate::reading::Reading;
 use crate::slots::read_slots;
 use disk_base::Disk;
 
-/// What a spool file holds: how many slots, the numbers of the first message and of the next one, how many messages,
-/// and the mark.
+/// What a spool file holds: its version, 1 or 2, how many slots, the numbers of the first message and of the next one,
+/// how many messages, and the mark.
 #[derive(Clone, Copy, Debug)]
 pub struct Known {
+    pub version: u8,
     pub slots: u32,
     pub first: u64,
     pub next: u64,
@@ -22,11 +23,12 @@ pub struct Known {
 }
 
 impl Known {
-    /// Of an empty list with mark 0.
+    /// Of an empty list with mark 0, in a new file.
     pub fn new(slots: u32) -> Known
-        ensures { result ≡ record { slots = slots; first = 0; next = 0; len = 0; mark = 0 } }
+        ensures { result ≡ record { version = 2; slots = slots; first = 0; next = 0; len = 0; mark = 0 } }
     {
         Known {
+            version: 2,
             slots,
             first: 0,
             next: 0,
@@ -43,18 +45,18 @@ pub fn read_file<D: Disk>(disk: &mut D) -> Reading<Known>
     ensures told { D.told disk.new ≡ D.told disk.old }
     ensures size { D.size_is disk.new ≡ D.size_is disk.old }
     ensures reads { HasRead (D.health disk.old) (D.health disk.new) (D.calls disk.old) (D.calls disk.new)
-        (file_reads (D.size_is disk.old) result)
-        (reading_answer result) }
+        (file_reads (D.told disk.old) (D.size_is disk.old) result) (reading_answer result) }
     ensures exact { MakesWhole file_looks (D.told disk.old) (D.health disk.old) (D.health disk.new)
         (D.calls disk.old) (D.calls disk.new) (reading_answer result) }
     ensures same_disk { IsSameDisk D.Disk disk.old disk.new }
 {
     match read_front(disk) {
-        Reading::Whole(front) => match read_slots(disk, front.floor, front.slots) {
+        Reading::Whole(front) => match read_slots(disk, front.frame) {
             Reading::Whole(scan) => Reading::Whole(Known {
-                slots: front.slots,
+                version: front.frame.version,
+                slots: front.frame.slots,
                 first: scan.least,
-                next: scan.least + scan.count as u64,
+                next: scan.least + scan.used as u64,
                 len: scan.count,
                 mark: front.mark,
             }),

@@ -1,8 +1,21 @@
 //! The layout of one slot, and where its fields break.
 
-ghost use Rattle.std.specs.Prelude.{◌≡◌, ◌<◌, ◌^◌, ◌%◌, None, IfSome, drop};
+ghost use Rattle.std.specs.Prelude.{◌≡◌, ◌+◌, ◌<◌, ◌≤◌, ◌^◌, ◌%◌, None, IfSome, drop};
 ghost use Rattle.disk_base.specs.Story.{bytes_at};
+ghost use Rattle.spool_file.specs.Sizes.{slots_for as slots_of};
 ghost use Rattle.spool_file.specs.Slot.{head_break as break_in, head_of};
+ghost use Rattle.spool_file.specs.Reading.{most_slots};
+
+use crate::sizes::{is_too_long, slots_for};
+
+/// What the tests of the slots go by: the version of the file, 1 or 2, how many slots there are, and the floor, below
+/// which no message has its number.
+#[derive(Clone, Copy, Debug, PartialEq, Eq)]
+pub struct Frame {
+    pub version: u8,
+    pub slots: u32,
+    pub floor: u64,
+}
 
 /// The fields of a message in a slot.
 #[derive(Clone, Copy, Debug, PartialEq, Eq)]
@@ -16,8 +29,6 @@ pub struct SlotHead {
 
 /// How many bytes a slot has, and what stands before the first one.
 pub const SLOT_SIZE: usize = 4096;
-/// The most bytes of a body.
-pub const BODY_MOST: u32 = 4081;
 /// The gate of an open slot.
 pub const OPEN: u8 = 0x5A;
 /// A gate that is closed.
@@ -30,7 +41,7 @@ pub const NUMBER: usize = 1;
 
 const FUNCTION: usize = 10;
 
-const LEN: usize = 11;
+pub const LEN: usize = 11;
 
 /// The slot of a number.
 pub fn slot_of(number: u64, slots: u32) -> u32
@@ -69,20 +80,21 @@ pub fn head_in(bytes: &[u8; SLOT_SIZE]) -> SlotHead
     }
 }
 
-/// Where the fields of an open slot break.
-pub fn head_break(slots: u32, slot: u32, head: SlotHead) -> Option<usize>
-    requires { 0 < slots }
-    ensures place { result ≡ break_in slots slot head }
+/// Where the fields of a slot that stands break.
+pub fn head_break(frame: Frame, slot: u32, head: SlotHead) -> Option<usize>
+    requires { 0 < frame.slots }
+    ensures place { result ≡ break_in frame slot head }
     ensures bound { IfSome result (λ place. place < 15) }
-    ensures number { result ≡ None → head.number < 2 ^ 63 }
+    ensures number { result ≡ None → head.number + slots_of head.len ≤ 2 ^ 63 }
+    ensures size { result ≡ None → slots_of head.len ≤ most_slots frame.version }
 {
-    if head.len > BODY_MOST {
+    if is_too_long(frame.version, frame.slots, head.len) {
         return Some(LEN);
     }
-    if head.number % slots as u64 != slot as u64 {
+    if head.number % frame.slots as u64 != slot as u64 {
         return Some(NUMBER);
     }
-    if head.number >= NUMBERS {
+    if head.number > NUMBERS - slots_for(head.len) as u64 {
         return Some(NUMBER);
     }
     if head.function % 2 == 0 {

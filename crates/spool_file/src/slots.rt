@@ -1,29 +1,34 @@
-//! The slots on the disk: where they are, which hold a message, and whether the numbers of these are a list's.
+//! The slots on the disk: where they are, which hold a message, and whether the fields and numbers of these are a
+//! list's.
 
-ghost use Rattle.std.specs.Prelude.{◌≡◌, ℕ, ◌+◌, ◌*◌, ◌<◌, ◌≤◌, ◌^◌, true, List, Option, Some, None, IfSome, drop};
+ghost use Rattle.std.specs.Prelude.{◌≡◌, ℕ, ◌+◌, ◌*◌, ◌<◌, ◌≤◌, ◌^◌, ◌%◌, true, List, Option, Some, None, IfSome, drop};
 ghost use Rattle.std.specs.List.{slice_get};
 ghost use Rattle.disk_base.specs.SameDisk.{IsSameDisk};
 ghost use Rattle.disk_base.specs.Story.{Story, bytes_at};
-ghost use Rattle.spool_file.specs.Area.{first_at, put_if};
-ghost use Rattle.spool_file.specs.File.{area_break};
+ghost use Rattle.spool_file.specs.Area.{first_at};
+ghost use Rattle.spool_file.specs.Breaks.{ahead_break, area_break, fields_break};
 ghost use Rattle.spool_file.specs.Logs.{MakesAll};
-ghost use Rattle.spool_file.specs.Reading.{AreaIs, EndIs, EndsOn, IsScan, ScanFits, ScanIs, ScansOn, StartIs};
-ghost use Rattle.spool_file.specs.Reading.{least_with as least_of, reading_answer, slot_from};
-ghost use Rattle.spool_file.specs.Reads.{HasRead, start_look, start_looks};
-ghost use Rattle.spool_file.specs.Slot.{Message, ahead_break, head_of, in_slot, slot_break, slot_in};
-ghost use Rattle.spool_file.specs.Slot.{slot_place as place_of, stands_on};
+ghost use Rattle.spool_file.specs.Reading.{AreaFits, AreaIs, HasRoom, IsFrame, ScanFits, ScanIs, ScansOn, StartIs};
+ghost use Rattle.spool_file.specs.Reading.{TestIs, counted_in, least_with as least_of, most_slots, reading_answer};
+ghost use Rattle.spool_file.specs.Reading.{slot_from};
+ghost use Rattle.spool_file.specs.Reads.{HasRead, slots_looks, start_look, start_looks};
+ghost use Rattle.spool_file.specs.Sizes.{slots_for as slots_of};
+ghost use Rattle.spool_file.specs.Slot.{head_of, in_slot, slot_break, slot_in, slot_place as place_of, stands_on};
 
+use crate::chain::check_chain;
 use crate::reading::{NotSpool, Reading};
-use crate::slot::{NUMBER, OPEN, SLOT_SIZE, head, head_break};
+use crate::sizes::slots_for;
+use crate::slot::{Frame, LEN, NUMBER, OPEN, SLOT_SIZE, head, head_break, slot_of};
 use disk_base::{Disk, DiskAnswer};
 
-/// The slots that stand so far: how many there are, their least number or else the floor, and the number behind their
-/// greatest.
+/// The slots that stand so far: how many there are, their least number or else the floor, their greatest one or else
+/// 0, and how many slots their messages take.
 #[derive(Clone, Copy, Debug)]
 pub struct Scan {
     pub count: u32,
     pub least: u64,
-    pub behind: u64,
+    pub greatest: u64,
+    pub used: u32,
 }
 
 /// Where a slot begins; by the number of slots, how many bytes a file takes.
@@ -33,8 +38,8 @@ pub fn slot_place(slot: u32) -> u64
     SLOT_SIZE as u64 * (slot as u64 + 1)
 }
 
-// Reads the first fifteen bytes of a slot.
-fn read_start<D: Disk>(disk: &mut D, slot: u32, start: &mut [u8; 15]) -> DiskAnswer
+/// Reads the first fifteen bytes of a slot.
+pub fn read_start<D: Disk>(disk: &mut D, slot: u32, start: &mut [u8; 15]) -> DiskAnswer
     requires { place_of (slot + 1) ≤ D.size_is disk.old }
     ensures start { StartIs (D.told disk.old) slot start.new result }
     ensures told { D.told disk.new ≡ D.told disk.old }
@@ -59,19 +64,8 @@ fn least_with(scan: Scan, number: u64) -> u64
     scan.least
 }
 
-// The number behind the greatest with one more.
-fn behind_with(behind: u64, number: u64) -> u64
-    requires { number < 2 ^ 63 }
-    ensures old { behind ≤ result }
-    ensures new { number < result }
-    ensures lowest { (end : ℕ) → behind ≤ end → number < end → result ≤ end }
-    ensures bound { behind ≤ 2 ^ 63 → result ≤ 2 ^ 63 }
-{
-    if number < behind { behind } else { number + 1 }
-}
-
-// Whether a slot that starts so stands.
-fn stands(floor: u64, start: &[u8; 15]) -> bool
+/// Whether a slot that starts so stands.
+pub fn stands(floor: u64, start: &[u8; 15]) -> bool
     ensures { result ≡ stands_on floor (slot_from start.now) }
 {
     if start[0] != OPEN {
@@ -83,40 +77,40 @@ fn stands(floor: u64, start: &[u8; 15]) -> bool
 // Counts a slot if it stands.
 fn counted(floor: u64, scan: Scan, start: &[u8; 15]) -> Scan
     requires count { scan.count < 65535 }
-    requires least { scan.least ≤ 2 ^ 63 }
-    requires behind { scan.behind ≤ 2 ^ 63 }
-    requires number { stands_on floor (slot_from start.now) ≡ true → (head_of (drop 1 start.now)).number < 2 ^ 63 }
-    ensures scan { (message : Message) (list : List Message) → message.number ≡ (head_of (drop 1 start.now)).number →
-        IsScan scan floor list → IsScan result floor (put_if (stands_on floor (slot_from start.now)) message list) }
-    ensures fits { (result.count ≤ scan.count + 1) × (result.least ≤ 2 ^ 63) × (result.behind ≤ 2 ^ 63) }
+    requires used { scan.used ≤ 257 * 65535 }
+    requires size { stands_on floor (slot_from start.now) ≡ true → slots_of (head_of (drop 1 start.now)).len ≤ 257 }
+    ensures { result ≡ counted_in floor scan (slot_from start.now) }
 {
     if !stands(floor, start) {
         return scan;
     }
-    let number = head(start).number;
+    let head = head(start);
     Scan {
         count: scan.count + 1,
-        least: least_with(scan, number),
-        behind: behind_with(scan.behind, number),
+        least: least_with(scan, head.number),
+        greatest: scan.greatest.max(head.number),
+        used: scan.used + slots_for(head.len),
     }
 }
 
 // Where a slot that starts so breaks.
-fn start_break(floor: u64, slots: u32, slot: u32, start: &[u8; 15]) -> Option<usize>
-    requires { 0 < slots }
-    ensures place { result ≡ slot_break floor slots slot (slot_from start.now) }
+fn start_break(frame: Frame, slot: u32, start: &[u8; 15]) -> Option<usize>
+    requires { 0 < frame.slots }
+    ensures place { result ≡ slot_break frame slot (slot_from start.now) }
     ensures bound { IfSome result (λ place. place < 15) }
-    ensures number { result ≡ None → stands_on floor (slot_from start.now) ≡ true →
-        (head_of (drop 1 start.now)).number < 2 ^ 63 }
+    ensures size { result ≡ None → stands_on frame.floor (slot_from start.now) ≡ true →
+        slots_of (head_of (drop 1 start.now)).len ≤ most_slots frame.version }
+    ensures number { result ≡ None → stands_on frame.floor (slot_from start.now) ≡ true →
+        (head_of (drop 1 start.now)).number ≤ 2 ^ 63 }
 {
-    if !stands(floor, start) {
+    if !stands(frame.floor, start) {
         return None;
     }
-    head_break(slots, slot, head(start))
+    head_break(frame, slot, head(start))
 }
 
-// A break with the byte at its place, in the start of a slot.
-fn break_in(slot: u32, place: usize, start: &[u8; 15]) -> NotSpool
+/// A break with the byte at its place, in the start of a slot.
+pub fn break_in(slot: u32, place: usize, start: &[u8; 15]) -> NotSpool
     requires { place < 15 }
     ensures at { result.at ≡ place_of slot + place }
     ensures got { (bytes : List ℕ) → start.now ≡ bytes_at bytes (place_of slot) 15 →
@@ -129,14 +123,13 @@ fn break_in(slot: u32, place: usize, start: &[u8; 15]) -> NotSpool
 }
 
 // Tests the fields of a slot, and counts it if it stands.
-fn scan_slot<D: Disk>(disk: &mut D, floor: u64, slots: u32, slot: u32, scan: Scan) -> Reading<Scan>
+fn scan_slot<D: Disk>(disk: &mut D, frame: Frame, slot: u32, scan: Scan) -> Reading<Scan>
     requires size { place_of (slot + 1) ≤ D.size_is disk.old }
-    requires slot { slot < slots }
-    requires count { scan.count < 65535 }
-    requires least { scan.least ≤ 2 ^ 63 }
-    requires behind { scan.behind ≤ 2 ^ 63 }
-    ensures scan { ScansOn floor slots slot scan (D.told disk.old) result }
-    ensures fits { ScanFits (scan.count + 1) result }
+    requires slot { slot < frame.slots }
+    requires frame { IsFrame frame }
+    requires room { HasRoom frame.version slot scan }
+    ensures scan { ScansOn frame slot scan (D.told disk.old) result }
+    ensures fits { ScanFits frame.version (slot + 1) result }
     ensures told { D.told disk.new ≡ D.told disk.old }
     ensures size { D.size_is disk.new ≡ D.size_is disk.old }
     ensures look { MakesAll (D.health disk.old) (D.health disk.new) (D.calls disk.old) (D.calls disk.new)
@@ -148,36 +141,35 @@ fn scan_slot<D: Disk>(disk: &mut D, floor: u64, slots: u32, slot: u32, scan: Sca
         DiskAnswer::Failed => return Reading::Failed,
         DiskAnswer::Done => {}
     }
-    match start_break(floor, slots, slot, &start) {
+    match start_break(frame, slot, &start) {
         Some(place) => Reading::Broken(break_in(slot, place, &start)),
-        None => Reading::Whole(counted(floor, scan, &start)),
+        None => Reading::Whole(counted(frame.floor, scan, &start)),
     }
 }
 
 /// Tests the fields of the slots, and counts those that stand.
-pub fn scan_slots<D: Disk>(disk: &mut D, floor: u64, slots: u32) -> Reading<Scan>
-    requires size { place_of slots ≤ D.size_is disk.old }
-    requires slots { slots ≤ 65535 }
-    requires floor { floor ≤ 2 ^ 63 }
-    ensures scan { ScanIs floor slots (D.told disk.old) result }
-    ensures fits { ScanFits slots result }
+pub fn scan_slots<D: Disk>(disk: &mut D, frame: Frame) -> Reading<Scan>
+    requires size { place_of frame.slots ≤ D.size_is disk.old }
+    requires frame { IsFrame frame }
+    ensures scan { ScanIs frame (D.told disk.old) result }
+    ensures fits { ScanFits frame.version frame.slots result }
     ensures told { D.told disk.new ≡ D.told disk.old }
     ensures size { D.size_is disk.new ≡ D.size_is disk.old }
-    ensures reads { HasRead (D.health disk.old) (D.health disk.new) (D.calls disk.old) (D.calls disk.new) slots
+    ensures reads { HasRead (D.health disk.old) (D.health disk.new) (D.calls disk.old) (D.calls disk.new) frame.slots
         (reading_answer result) }
-    ensures exact { (s : Story) → D.told disk.old ≡ Some s →
-        first_at (λ k. in_slot k (slot_break floor slots k (slot_in s.now.bytes k))) slots ≡ None →
+    ensures exact { (s : Story) → D.told disk.old ≡ Some s → fields_break frame (slot_in s.now.bytes) ≡ None →
         MakesAll (D.health disk.old) (D.health disk.new) (D.calls disk.old) (D.calls disk.new)
-        (start_looks slots) (reading_answer result) }
+        (start_looks frame.slots) (reading_answer result) }
     ensures same_disk { IsSameDisk D.Disk disk.old disk.new }
 {
     let mut scan = Scan {
         count: 0,
-        least: floor,
-        behind: 0,
+        least: frame.floor,
+        greatest: 0,
+        used: 0,
     };
-    for slot in 0..slots {
-        match scan_slot(disk, floor, slots, slot, scan) {
+    for slot in 0..frame.slots {
+        match scan_slot(disk, frame, slot, scan) {
             Reading::Whole(next) => scan = next,
             Reading::Broken(not_spool) => return Reading::Broken(not_spool),
             Reading::Failed => return Reading::Failed,
@@ -203,7 +195,7 @@ fn start_ahead(floor: u64, end: u64, start: &[u8; 15]) -> Option<usize>
 // Tests the number of a slot if it stands.
 fn check_slot<D: Disk>(disk: &mut D, floor: u64, slot: u32, end: u64) -> Reading<()>
     requires size { place_of (slot + 1) ≤ D.size_is disk.old }
-    ensures end { EndsOn floor slot end (D.told disk.old) result }
+    ensures end { TestIs (λ slots. in_slot slot (ahead_break floor end (slots slot))) (D.told disk.old) result }
     ensures told { D.told disk.new ≡ D.told disk.old }
     ensures size { D.size_is disk.new ≡ D.size_is disk.old }
     ensures look { MakesAll (D.health disk.old) (D.health disk.new) (D.calls disk.old) (D.calls disk.new)
@@ -225,7 +217,8 @@ fn check_slot<D: Disk>(disk: &mut D, floor: u64, slot: u32, end: u64) -> Reading
 fn check_slots<D: Disk>(disk: &mut D, floor: u64, slots: u32, end: u64) -> Reading<()>
     requires size { place_of slots ≤ D.size_is disk.old }
     requires slots { slots ≤ 65535 }
-    ensures end { EndIs floor slots end (D.told disk.old) result }
+    ensures end { TestIs (λ slot. first_at (λ k. in_slot k (ahead_break floor end (slot k))) slots)
+        (D.told disk.old) result }
     ensures told { D.told disk.new ≡ D.told disk.old }
     ensures size { D.size_is disk.new ≡ D.size_is disk.old }
     ensures reads { HasRead (D.health disk.old) (D.health disk.new) (D.calls disk.old) (D.calls disk.new) slots
@@ -242,29 +235,33 @@ fn check_slots<D: Disk>(disk: &mut D, floor: u64, slots: u32, end: u64) -> Readi
     Reading::Whole(())
 }
 
-/// Tests the slots, and counts those that stand. They are read once where the numbers of these have no gap.
-pub fn read_slots<D: Disk>(disk: &mut D, floor: u64, slots: u32) -> Reading<Scan>
-    requires size { place_of slots ≤ D.size_is disk.old }
-    requires slots { slots ≤ 65535 }
-    requires floor { floor ≤ 2 ^ 63 }
-    ensures area { AreaIs floor slots (D.told disk.old) result }
-    ensures fits { ScanFits slots result }
+/// Tests the slots of a file of version 1, and counts those that stand. They are read once where the numbers of these
+/// have no gap.
+pub fn read_even<D: Disk>(disk: &mut D, frame: Frame) -> Reading<Scan>
+    requires size { place_of frame.slots ≤ D.size_is disk.old }
+    requires frame { IsFrame frame }
+    requires version { frame.version ≡ 1 }
+    ensures area { AreaIs frame (D.told disk.old) result }
+    ensures fits { AreaFits frame result }
     ensures told { D.told disk.new ≡ D.told disk.old }
     ensures size { D.size_is disk.new ≡ D.size_is disk.old }
-    ensures reads { HasRead (D.health disk.old) (D.health disk.new) (D.calls disk.old) (D.calls disk.new) (2 * slots)
-        (reading_answer result) }
-    ensures exact { (s : Story) → D.told disk.old ≡ Some s → area_break floor (slot_in s.now.bytes) slots ≡ None →
+    ensures reads { HasRead (D.health disk.old) (D.health disk.new) (D.calls disk.old) (D.calls disk.new)
+        (2 * frame.slots) (reading_answer result) }
+    ensures exact { (s : Story) → D.told disk.old ≡ Some s → area_break frame (slot_in s.now.bytes) ≡ None →
         MakesAll (D.health disk.old) (D.health disk.new) (D.calls disk.old) (D.calls disk.new)
-        (start_looks slots) (reading_answer result) }
+        (start_looks frame.slots) (reading_answer result) }
     ensures same_disk { IsSameDisk D.Disk disk.old disk.new }
 {
-    match scan_slots(disk, floor, slots) {
+    match scan_slots(disk, frame) {
         Reading::Whole(scan) => {
-            let end = scan.least + scan.count as u64;
-            if scan.behind <= end {
+            if scan.count == 0 {
                 return Reading::Whole(scan);
             }
-            match check_slots(disk, floor, slots, end) {
+            let end = scan.least + scan.count as u64;
+            if scan.greatest < end {
+                return Reading::Whole(scan);
+            }
+            match check_slots(disk, frame.floor, frame.slots, end) {
                 Reading::Whole(()) => Reading::Whole(scan),
                 Reading::Broken(not_spool) => Reading::Broken(not_spool),
                 Reading::Failed => Reading::Failed,
@@ -272,5 +269,72 @@ pub fn read_slots<D: Disk>(disk: &mut D, floor: u64, slots: u32) -> Reading<Scan
         }
         Reading::Broken(not_spool) => Reading::Broken(not_spool),
         Reading::Failed => Reading::Failed,
+    }
+}
+
+// Of slots whose messages take more slots than there are, the length of the last one: a byte that no good length has.
+fn sum_break(slots: u32, scan: Scan) -> NotSpool
+    requires { 0 < slots }
+    ensures at { result.at ≡ place_of (scan.greatest % slots) + 11 }
+    ensures got { result.got ≡ Some 0 }
+{
+    NotSpool {
+        at: slot_place(slot_of(scan.greatest, slots)) + LEN as u64,
+        got: Some(0),
+    }
+}
+
+/// Tests the slots of a file of version 2, and counts those that stand: first their fields, then whether each message
+/// follows another, in a second pass over all of them, and last how many slots they take.
+pub fn read_chain<D: Disk>(disk: &mut D, frame: Frame) -> Reading<Scan>
+    requires size { place_of frame.slots ≤ D.size_is disk.old }
+    requires frame { IsFrame frame }
+    requires version { frame.version ≡ 2 }
+    ensures area { AreaIs frame (D.told disk.old) result }
+    ensures fits { AreaFits frame result }
+    ensures told { D.told disk.new ≡ D.told disk.old }
+    ensures size { D.size_is disk.new ≡ D.size_is disk.old }
+    ensures reads { HasRead (D.health disk.old) (D.health disk.new) (D.calls disk.old) (D.calls disk.new)
+        (3 * frame.slots) (reading_answer result) }
+    ensures exact { (s : Story) → D.told disk.old ≡ Some s → area_break frame (slot_in s.now.bytes) ≡ None →
+        MakesAll (D.health disk.old) (D.health disk.new) (D.calls disk.old) (D.calls disk.new)
+        (slots_looks 2 frame.slots) (reading_answer result) }
+    ensures same_disk { IsSameDisk D.Disk disk.old disk.new }
+{
+    match scan_slots(disk, frame) {
+        Reading::Whole(scan) => match check_chain(disk, frame, scan.least) {
+            Reading::Whole(()) => {
+                if scan.used > frame.slots {
+                    return Reading::Broken(sum_break(frame.slots, scan));
+                }
+                Reading::Whole(scan)
+            }
+            Reading::Broken(not_spool) => Reading::Broken(not_spool),
+            Reading::Failed => Reading::Failed,
+        },
+        Reading::Broken(not_spool) => Reading::Broken(not_spool),
+        Reading::Failed => Reading::Failed,
+    }
+}
+
+/// Tests the slots by the version of their file, and counts those that stand.
+pub fn read_slots<D: Disk>(disk: &mut D, frame: Frame) -> Reading<Scan>
+    requires size { place_of frame.slots ≤ D.size_is disk.old }
+    requires frame { IsFrame frame }
+    ensures area { AreaIs frame (D.told disk.old) result }
+    ensures fits { AreaFits frame result }
+    ensures told { D.told disk.new ≡ D.told disk.old }
+    ensures size { D.size_is disk.new ≡ D.size_is disk.old }
+    ensures reads { HasRead (D.health disk.old) (D.health disk.new) (D.calls disk.old) (D.calls disk.new)
+        (3 * frame.slots) (reading_answer result) }
+    ensures exact { (s : Story) → D.told disk.old ≡ Some s → area_break frame (slot_in s.now.bytes) ≡ None →
+        MakesAll (D.health disk.old) (D.health disk.new) (D.calls disk.old) (D.calls disk.new)
+        (slots_looks frame.version frame.slots) (reading_answer result) }
+    ensures same_disk { IsSameDisk D.Disk disk.old disk.new }
+{
+    if frame.version == 1 {
+        read_even(disk, frame)
+    } else {
+        read_chain(disk, frame)
     }
 }

@@ -15,11 +15,11 @@ returns-clause-front g c =
 
 pub returns-in-Failed-clause-look : goal.returns-in-Failed-clause-look
 returns-in-Failed-clause-look g c =
-    one_read 0 0 (length c.args.front.now) (min 46 c.args.size) Failed refl c.requires.long c.in-Failed.ensures.cause
+    one_read 0 0 (length c.args.front.now) (min 47 c.args.size) Failed refl c.requires.long c.in-Failed.ensures.cause
     c.in-Failed.ensures.calls
 
 pub returns-clause-look : goal.returns-clause-look
 returns-clause-look g c =
     front_looked c.read.new.into c.args.size c.front_of.result c.front_of.ensures.front
-    (one_read 0 0 (length c.args.front.now) (min 46 c.args.size) Done refl c.requires.long c.in-Done.ensures.cause
+    (one_read 0 0 (length c.args.front.now) (min 47 c.args.size) Done refl c.requires.long c.in-Done.ensures.cause
     c.in-Done.ensures.calls)

@@ -1,6 +1,7 @@
 -- The slot is ahead of the end exactly where the file's is.
 
-use Rattle.std.proofs.Common.{◌∙◌, sym}
+use Rattle.std.proofs.Common.{◌∙◌, ap, sym}
+use Rattle.spool_file.specs.Slot.{in_slot}
 use Rattle.spool_file.proofs.Starts.{broken_on, same_ahead}
 use Rattle.spool_file.proofs.slots.check_slot.Goals as goal
 
@@ -13,6 +14,6 @@ returns-in-Some-clause-end g c s told =
 
 pub returns-in-None-clause-end : goal.returns-in-None-clause-end
 returns-in-None-clause-end g c s told =
-    sym (same_ahead s.now.bytes c.read_start.new.start c.args.slot c.read_start.array_long
+    ap (in_slot c.args.slot) (sym (same_ahead s.now.bytes c.read_start.new.start c.args.slot c.read_start.array_long
     (c.in-Done.ensures.start s told) c.args.floor c.args.end)
-    ∙ sym c.start_ahead.ensures.place ∙ c.in-None.is
+    ∙ sym c.start_ahead.ensures.place ∙ c.in-None.is)

@@ -1,8 +1,9 @@
 -- The first slot that is ahead is the break; with none left none is. The reads are counted.
 
-use Rattle.std.proofs.Common.{refl, ◌∙◌, ◌≡◌, ap, subst, arith, None}
+use Rattle.std.proofs.Common.{refl, ◌∙◌, ◌≡◌, subst, arith, None}
 use Rattle.spool_file.specs.Area.{first_at}
-use Rattle.spool_file.specs.Slot.{ahead_break, in_slot, slot_in, slot_place}
+use Rattle.spool_file.specs.Breaks.{ahead_break}
+use Rattle.spool_file.specs.Slot.{in_slot, slot_in, slot_place}
 use Rattle.disk_base.proofs.Stretches.{same_then}
 use Rattle.disk_base.specs.declared.disk.DiskAnswer.TheVariants.{Done, Failed}
 use Rattle.spool_file.proofs.Firsts.{first_found, first_next}
@@ -26,7 +27,7 @@ loop-slot-preserved g c = (
   λ s is.
       first_next (λ k. in_slot k (ahead_break c.args.floor c.args.end (slot_in s.now.bytes k))) c.loop-slot.slot
       (c.loop-slot.invariant.0 s is)
-      (ap (in_slot c.loop-slot.slot) (c.in-Whole.ensures.end s (c.loop-slot.invariant.1 ∙ is))),
+      (c.in-Whole.ensures.end s (c.loop-slot.invariant.1 ∙ is)),
   c.in-Whole.ensures.told ∙ c.loop-slot.invariant.1,
   c.in-Whole.ensures.size ∙ c.loop-slot.invariant.2,
   same_then c.loop-slot.invariant.3 c.in-Whole.ensures.same_disk,

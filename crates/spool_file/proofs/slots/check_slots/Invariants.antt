@@ -6,7 +6,8 @@ use Rattle.disk_base.specs.Story.{Story}
 use Rattle.disk_base.specs.SameDisk.{IsSameDisk}
 use Rattle.spool_file.specs.Area.{first_at}
 use Rattle.spool_file.specs.Reads.{HasRead}
-use Rattle.spool_file.specs.Slot.{ahead_break, in_slot, slot_in}
+use Rattle.spool_file.specs.Breaks.{ahead_break}
+use Rattle.spool_file.specs.Slot.{in_slot, slot_in}
 use Rattle.spool_file.proofs.slots.check_slots.Given as goal
 
 abbrev pub invariant-loop-slot : goal.invariant-loop-slot
