@@ -1,11 +1,11 @@
 -- What writing another value of a cell leaves at each moment, and its calls.
-use Rattle.std.proofs.Common.{◌≡◌, ℕ, ◌+◌, ◌<◌, ◌≤◌, Bool, not, List, [], ◌∷◌, Option, Some, None, sym, ap, subst, ◌∙◌, inl, inr}
+use Rattle.std.proofs.Common.{◌≡◌, ℕ, ◌+◌, ◌<◌, ◌≤◌, Bool, not, List, [], ◌∷◌, Option, Some, None, sym, ap, subst, ◌∙◌, inl}
 use Rattle.disk_base.specs.Story.{Story}
 use Rattle.disk_base.specs.Settle.{LogsBoth}
 use Rattle.disk_base.specs.Through.{GoesThrough}
 use Rattle.disk_base.specs.Calls.{DiskCall}
 use Rattle.disk_base.specs.declared.disk.DiskAnswer.{DiskAnswer}
-use Rattle.disk_base.specs.declared.disk.DiskAnswer.TheVariants.{Done, Failed}
+use Rattle.disk_base.specs.declared.disk.DiskAnswer.TheVariants.{Done}
 use Rattle.disk_base.proofs.Moments.{now_is, through_more}
 use Rattle.disk_base.proofs.Stretches.{both_wider}
 use Rattle.gate_cell.proofs.Values.{commits_behind, committed_behind}

@@ -2,8 +2,8 @@
 use Rattle.std.proofs.Common.{◌≡◌, ℕ, ◌+◌, ◌%◌, ◌<◌, ◌≤◌, ◌⊎◌, Bool, true, false, List, [], ◌∷◌, ◌++◌, refl, sym, ap, subst, ◌∙◌, arith, inl, inr}
 use Rattle.std.proofs.lemmas.Bool.{cases_eq}
 use Rattle.spool_file.specs.Area.{messages_below, put_by_number}
-use Rattle.spool_file.specs.Run.{IsChainFrom, width}
-use Rattle.spool_file.specs.Slot.{Message}
+use Rattle.spool_file.specs.Run.{IsChainFrom}
+use Rattle.spool_file.specs.Slot.{Message, width}
 use Rattle.spool_file.proofs.Areas.{IsSameAt, all_same, each_made, one_more, put_before_last, put_first, put_last}
 use Rattle.spool_file.proofs.Areas.{put_later, same_back}
 use Rattle.spool_file.proofs.Runs.{IsBetween, IsKept, chain_last, some_width, within}

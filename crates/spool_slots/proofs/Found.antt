@@ -1,40 +1,37 @@
 -- A spool of what was found, and one of a new file.
-use Rattle.std.proofs.Common.{◌≡◌, ℕ, ◌≤◌, List, [], length, Option, Some, None, refl, sym, ap, subst, ◌∙◌, arith}
+use Rattle.std.proofs.Common.{◌≡◌, ℕ, ◌≤◌, List, [], length, Option, Some, None, refl, sym, ap, subst, ◌∙◌, arith, inr}
 use Rattle.std.specs.Option.{option_map}
 use Rattle.disk_base.specs.Story.{Story, with_sync}
 use Rattle.disk_base.specs.declared.disk.Disk as disk
 use Rattle.spool_file.specs.Area.{first_of}
-use Rattle.spool_file.specs.File.{Ends, SpoolFile, area_break, file_in, floor_in, slots_in}
+use Rattle.spool_file.specs.File.{Ends, SpoolFile, file_in, frame_in}
 use Rattle.spool_file.specs.Format.{empty_file}
-use Rattle.spool_file.specs.Front.{front_break, front_in}
 use Rattle.spool_file.specs.Reading.{KnownFits, KnownIs}
 use Rattle.spool_file.specs.Run.{IsChainFrom}
 use Rattle.spool_file.specs.Slot.{slot_in, slot_place}
 use Rattle.spool_file.specs.declared.recovery.Known.{Known}
-use Rattle.spool_file.proofs.Firsts.{both_none}
-use Rattle.spool_file.proofs.Gapless.{first_low, sound_kept}
+use Rattle.spool_file.proofs.Sound.{first_low}
+use Rattle.spool_file.proofs.Wholes.{sound_kept}
 use Rattle.spool_slots.specs.Spool.{IsSpool, Rests, in_hand}
 
 pub rests_of : (s : Story) (known : Known) → s.now.loose ≡ [] → slot_place known.slots ≤ length s.now.bytes →
     KnownIs s.now.bytes known →
     Rests s known
 rests_of s known settled inside is =
-    let both = both_none (front_break (front_in s.now.bytes) (length s.now.bytes))
-    (area_break (floor_in s.now.bytes) (slot_in s.now.bytes) (slots_in s.now.bytes)) is.0 in
+    let frame = frame_in s.now.bytes in
     record {
       settled = settled;
       sound = is.0;
       inside = inside;
-      slots_are = is.1;
-      mark_is = is.2;
-      low = subst (λ n. floor_in s.now.bytes ≤ n) (sym is.3)
-          (first_low (floor_in s.now.bytes) (slot_in s.now.bytes) (slots_in s.now.bytes));
+      version_is = is.1;
+      slots_are = is.2;
+      mark_is = is.3;
+      low = subst (λ n. frame.floor ≤ n) (sym is.4) (first_low frame (slot_in s.now.bytes) frame.slots);
       chain =
-          subst (λ n. IsChainFrom n known.next (file_in s.now.bytes).list) (sym is.3)
-          (subst (λ n. IsChainFrom (first_of (floor_in s.now.bytes) (file_in s.now.bytes).list) n
-          (file_in s.now.bytes).list) (sym is.4)
-          (sound_kept (floor_in s.now.bytes) (slot_in s.now.bytes) (slots_in s.now.bytes) both.1).kept.chain);
-      count = is.5;
+          subst (λ n. IsChainFrom n known.next (file_in s.now.bytes).list) (sym is.4)
+          (subst (λ n. IsChainFrom (first_of frame.floor (file_in s.now.bytes).list) n (file_in s.now.bytes).list)
+          (sym is.5) (sound_kept s.now.bytes is.0).kept.chain);
+      count = is.6;
     }
 
 abbrev loose_of : Option Story → List (ℕ × ℕ)
@@ -54,13 +51,16 @@ pub spool_of : {D : Type 0} (members : disk.Ghosts D) (here : D) (known : Known)
     KnownFits (members.size_is here) known →
     ((s : Story) → members.told here ≡ Some s → Rests s known) → IsSpool members (in_hand here known)
 spool_of members here known fits rests = record {
-  some = fits.0;
-  most = fits.1;
-  fits = fits.2;
-  room = fits.4;
-  even = fits.6;
-  numbers = omega (arith, fits.6, fits.5, fits.4, fits.1);
-  mark_most = fits.3;
+  version = fits.version;
+  some = fits.some;
+  most = fits.most;
+  fits = fits.fits;
+  from = fits.from;
+  none = fits.none;
+  even = fits.even;
+  room = fits.room;
+  numbers = omega (arith, fits.room, fits.first, fits.most);
+  mark_most = fits.mark;
   rests = rests;
 }
 
@@ -69,13 +69,16 @@ pub empty_spool : {D : Type 0} (members : disk.Ghosts D) (d : D) (slots : ℕ) �
     slot_place slots ≤ members.size_is d →
     ((t : Story) → members.told d ≡ Some t → Ends t (empty_file slots)) →
     ((t : Story) → members.told d ≡ Some t → length t.now.bytes ≡ members.size_is d) →
-    IsSpool members (in_hand d (record { slots = slots; first = 0; next = 0; len = 0; mark = 0 }))
+    IsSpool members (in_hand d (record { version = 2; slots = slots; first = 0; next = 0; len = 0; mark = 0 }))
 empty_spool members d slots some most fits ends sized = record {
+  version = inr refl;
   some = some;
   most = most;
   fits = fits;
+  from = omega arith;
+  none = λ empty. refl;
+  even = λ one. refl;
   room = omega arith;
-  even = omega arith;
   numbers = omega arith;
   mark_most = omega arith;
   rests = λ t told. let is = (ends t told).stands.is in
@@ -83,6 +86,7 @@ empty_spool members d slots some most fits ends sized = record {
         settled = (ends t told).settled;
         sound = (ends t told).stands.sound;
         inside = omega (arith, fits, sized t told);
+        version_is = ap (λ (f : SpoolFile). f.version) is;
         slots_are = ap (λ (f : SpoolFile). f.slots) is;
         mark_is = ap (λ (f : SpoolFile). f.mark.value) is;
         low = subst (λ (f : SpoolFile). f.floor.value ≤ 0) is (omega arith);

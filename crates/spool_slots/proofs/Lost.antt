@@ -1,5 +1,4 @@
 -- What a crash leaves of a gate that was written and not synced.
-use Rattle.std.proofs.lemmas.Nat.{mod_below}
 use Rattle.std.proofs.Common.{◌≡◌, ℕ, if◌then◌else◌, ◌+◌, ◌%◌, ◌<◌, ◌≤◌, ◌==◌, Bool, true, false, not, List, [], ◌∷◌, length}
 use Rattle.std.proofs.Common.{slice_index, Option, Some, None, refl, sym, ap, subst, ◌∙◌, arith, ⊎_elim}
 use Rattle.disk_base.specs.Calls.{DiskCall}
@@ -13,15 +12,15 @@ use Rattle.disk_base.specs.declared.cut.CutChoice.TheVariants.{Old, New, Fill, F
 use Rattle.disk_base.specs.declared.disk.Disk as disk
 use Rattle.disk_base.specs.declared.disk.DiskAnswer.TheVariants.{Failed}
 use Rattle.disk_base.proofs.Stretches.{both_wider, left_out_behind, lists_on, planned_before, used_none}
-use Rattle.spool_file.specs.File.{SpoolFile, StandsFor, file_in, floor_in}
-use Rattle.spool_file.specs.Slot.{is_open, slot_in, slot_place, stands_on}
+use Rattle.spool_file.specs.File.{SpoolFile, StandsFor, file_in}
+use Rattle.spool_file.specs.Slot.{slot_place}
 use Rattle.spool_file.specs.declared.recovery.Known.{Known}
-use Rattle.spool_file.proofs.Gates.{stands_open}
-use Rattle.spool_slots.specs.Changes.{HasSettled, dropped_in, sealed_in}
+use Rattle.spool_slots.specs.Changes.{HasSettled}
+use Rattle.spool_slots.specs.Files.{dropped_in, sealed_in}
 use Rattle.spool_slots.specs.Losses.{IsSure, LeavesByGate, LeavesByte, closes, file_left, gate_counts, opens}
-use Rattle.spool_slots.specs.Spool.{IsSpool, IsStagedSpool, Rests, in_hand}
-use Rattle.spool_slots.proofs.Lasting.{first_there}
-use Rattle.spool_slots.proofs.Moves.{close_less, open_more, shut_same, still_same}
+use Rattle.spool_slots.specs.Spool.{IsSpool, IsStagedSpool, Rests, in_hand, staged}
+use Rattle.spool_slots.proofs.Lasting.{closed, drop_open, gate_within, less_stands, more_stands, opened, place_below}
+use Rattle.spool_slots.proofs.Lasting.{seal_shut}
 
 -- a call planned among some is planned among more
 pub planned_wider : (h : DiskHealth) (n all : ℕ) → n ≤ all → IsPlanned h n → IsPlanned h all
@@ -121,73 +120,51 @@ by_byte before after at gate means changed was is stands left s t told told' cho
     (left_by means choice old gate (was s told) is) (stands s told (chosen_byte choice old gate)))
 
 -- the gate of the next message's slot
-module _ (written : HasWrittenLaw) (left : ChosenLaw) {D : Type 0} (members : disk.Ghosts D) (d d' : D) (k : Known)
-    (called : (s : Story) → members.told d ≡ Some s → (all : List DiskCall) × (members.calls d ≡ Some all)) where
-  module _ (is : IsStagedSpool members (in_hand d k)) where
-    abbrev slot : ℕ
-    slot = k.next % k.slots
+module _ {D : Type 0} (members : disk.Ghosts D) (d d' : D) (k : Known) (size : ℕ)
+    (is : IsStagedSpool members (staged d k size)) where
+  abbrev slot : ℕ
+  slot = k.next % k.slots
 
-    below : slot < k.slots
-    below = mod_below k.next k.slots (omega (arith, is.spool.some))
+  module _ (s : Story) (told : members.told d ≡ Some s) where
+    r : Rests s k
+    r = is.spool.rests s told
 
-    module _ (s : Story) (told : members.told d ≡ Some s) where
-      r : Rests s k
-      r = is.spool.rests s told
+    by_gate : (gate : ℕ) (b : Bool) → (gate == 90) ≡ b →
+        StandsFor (with_part s.now.bytes (slot_place slot) (gate ∷ []))
+        (file_left b (sealed_in slot s.now.bytes) (file_in s.now.bytes))
+    by_gate gate true test = more_stands s k r is.spool.room size (is.parts s told) is.some is.free gate test
+    by_gate gate false test = seal_shut s k r is.spool.room size (is.parts s told) is.some is.free gate test
 
-      shut : is_open (slot_in s.now.bytes slot) ≡ false
-      shut = (is.parts s told).closed
-
-      by_gate : (gate : ℕ) (b : Bool) → (gate == 90) ≡ b →
-          StandsFor (with_part s.now.bytes (slot_place slot) (gate ∷ []))
-          (file_left b (sealed_in slot s.now.bytes) (file_in s.now.bytes))
-      by_gate gate true test =
-          open_more s.now.bytes k.slots k.first k.next r.sound r.inside r.slots_are r.low r.chain slot below gate shut
-          test (is.parts s told).fields (is.parts s told).number
-      by_gate gate false test =
-          shut_same s.now.bytes k.slots k.first k.next r.sound r.inside r.slots_are r.low r.chain slot below gate shut
-          test
-
+  module _ (written : HasWrittenLaw) (left : ChosenLaw)
+      (called : (s : Story) → members.told d ≡ Some s → (all : List DiskCall) × (members.calls d ≡ Some all)) where
     pub seal_loss : HasSettled members d d' (slot_place slot) (90 ∷ []) Failed →
         IsSure (members.health d) (members.health d') 2 1 →
         LeavesByGate (members.told d) (members.told d') opens (sealed_in slot)
     seal_loss done sure =
-        by_byte (members.told d) (members.told d') (slot_place slot) 90 opens (sealed_in slot) shut refl
+        by_byte (members.told d) (members.told d') (slot_place slot) 90 opens (sealed_in slot)
+        (λ s told. closed s k (r s told) is.spool.room size (is.parts s told) is.some is.free) refl
         (λ s told other. by_gate s told other (opens other) refl)
         (byte_left written left members d d' (slot_place slot) 90 called (λ s told. (r s told).settled)
-        (λ s told. omega (arith, (r s told).inside, below)) done sure)
+        (λ s told. let within = gate_within s k slot (r s told) (place_below s k (r s told) is.spool.room k.next) in
+        omega (arith, within)) done sure)
 
-  -- and that of the oldest message's
-  module _ (is : IsSpool members (in_hand d k)) (one : 0 < k.len) where
-    abbrev oldest_slot : ℕ
-    oldest_slot = k.first % k.slots
+-- and that of the oldest message's
+module _ {D : Type 0} (members : disk.Ghosts D) (d d' : D) (k : Known) (is : IsSpool members (in_hand d k))
+    (one : 0 < k.len) where
+  abbrev oldest_slot : ℕ
+  oldest_slot = k.first % k.slots
 
-    module _ (s : Story) (told : members.told d ≡ Some s) where
-      rests : Rests s k
-      rests = is.rests s told
+  module _ (s : Story) (told : members.told d ≡ Some s) where
+    drop_by_gate : (gate : ℕ) (b : Bool) → (gate == 90) ≡ b →
+        StandsFor (with_part s.now.bytes (slot_place oldest_slot) (gate ∷ []))
+        (file_left (not b) (dropped_in s.now.bytes) (file_in s.now.bytes))
+    drop_by_gate gate true test = drop_open s k (is.rests s told) is.room one gate test
+    drop_by_gate gate false test = less_stands s k (is.rests s told) is.room one gate test
 
-      there : (oldest_slot < k.slots) × (stands_on (floor_in s.now.bytes) (slot_in s.now.bytes oldest_slot) ≡ true)
-          × ((slot_in s.now.bytes oldest_slot).head.number ≡ k.first)
-      there = first_there s k rests is.some one
-
-      opened : is_open (slot_in s.now.bytes oldest_slot) ≡ true
-      opened = stands_open (floor_in s.now.bytes) (slot_in s.now.bytes oldest_slot) there.1
-
-      drop_by_gate : (gate : ℕ) (b : Bool) → (gate == 90) ≡ b →
-          StandsFor (with_part s.now.bytes (slot_place oldest_slot) (gate ∷ []))
-          (file_left (not b) (dropped_in s.now.bytes) (file_in s.now.bytes))
-      drop_by_gate gate true test =
-          still_same s.now.bytes k.slots k.first k.next rests.sound rests.inside rests.slots_are rests.low rests.chain
-          oldest_slot there.0 gate opened test
-      drop_by_gate gate false test =
-          close_less s.now.bytes k.slots k.first k.next rests.sound rests.inside rests.slots_are rests.low rests.chain
-          oldest_slot there.0 gate there.1 there.2 test
-
-    pub drop_loss : HasSettled members d d' (slot_place oldest_slot) (0 ∷ []) Failed →
-        IsSure (members.health d) (members.health d') 2 1 →
-        LeavesByGate (members.told d) (members.told d') closes dropped_in
-    drop_loss done sure =
-        by_byte (members.told d) (members.told d') (slot_place oldest_slot) 0 closes dropped_in
-        (λ s told. ap not (opened s told)) refl
-        (λ s told other. drop_by_gate s told other (opens other) refl)
-        (byte_left written left members d d' (slot_place oldest_slot) 0 called (λ s told. (rests s told).settled)
-        (λ s told. omega (arith, (rests s told).inside, (there s told).0)) done sure)
+  -- its byte is what a crash leaves
+  pub drop_loss : LeavesByte (members.told d) (members.told d') (slot_place oldest_slot) 0 →
+      LeavesByGate (members.told d) (members.told d') closes dropped_in
+  drop_loss left =
+      by_byte (members.told d) (members.told d') (slot_place oldest_slot) 0 closes dropped_in
+      (λ s told. ap not (opened s k (is.rests s told) is.room one)) refl
+      (λ s told other. drop_by_gate s told other (opens other) refl) left

@@ -12,7 +12,8 @@ use Rattle.spool_file.specs.File.{Ends, SpoolFile, StandsFor, file_in}
 use Rattle.spool_file.specs.Front.{floor_cell, mark_cell}
 use Rattle.spool_file.specs.Slot.{slot_place}
 use Rattle.spool_file.specs.declared.recovery.Known.{Known}
-use Rattle.spool_slots.specs.Changes.{HasLostMove, HasValue, HoldsThrough, IsSame, IsSameOr, cleared_in, reserved_in}
+use Rattle.spool_slots.specs.Changes.{HasLostMove, HasValue, HoldsThrough, IsSame, IsSameOr}
+use Rattle.spool_slots.specs.Files.{cleared_in, reserved_in}
 use Rattle.spool_slots.specs.Losses.{HasLostValue, cell_left, file_left, gate_counts, names_spare}
 use Rattle.spool_slots.specs.Spool.{IsSpool, Rests, in_hand}
 use Rattle.spool_slots.proofs.Celled.{floored_anew, floored_as_it_was, marked_anew, marked_as_it_was}
@@ -81,22 +82,22 @@ module _ {D : Type 0} (members : disk.Ghosts D) (d d' : D) (k : Known) (is : IsS
   pub same_marked : (s : Story) → members.told d ≡ Some s → (image : List ℕ) →
       Holds s.now mark_cell (cell_in s.now.bytes mark_cell) image →
       IsSame s.now.bytes image
-  same_marked s told = marked_as_it_was s k (is.rests s told) is.some
+  same_marked s told = marked_as_it_was s k (is.rests s told) is.room
 
   pub same_floored : (s : Story) → members.told d ≡ Some s → (image : List ℕ) →
       Holds s.now floor_cell (cell_in s.now.bytes floor_cell) image →
       IsSame s.now.bytes image
-  same_floored s told = floored_as_it_was s k (is.rests s told) is.some
+  same_floored s told = floored_as_it_was s k (is.rests s told) is.room
 
   -- the mark was moved on
   module _ (left : k.mark + 4096 ≤ 2 ^ 32) where
     abbrev reserved : Known
-    reserved = record { slots = k.slots; first = k.first; next = k.next; len = k.len; mark = k.mark + 4096 }
+    reserved = record { version = k.version; slots = k.slots; first = k.first; next = k.next; len = k.len; mark = k.mark + 4096 }
 
     pub new_marked : (s : Story) → members.told d ≡ Some s → (image : List ℕ) →
         Holds s.now mark_cell (with_value (k.mark + 4096) (cell_in s.now.bytes mark_cell)) image →
         StandsFor image (reserved_in s.now.bytes)
-    new_marked s told = marked_anew s k (is.rests s told) is.some left
+    new_marked s told = marked_anew s k (is.rests s told) is.room left
 
     module _ (value : (s : Story) → members.told d ≡ Some s → HasValue s mark_cell (k.mark + 4096) (members.told d'))
       where
@@ -105,16 +106,20 @@ module _ {D : Type 0} (members : disk.Ghosts D) (d d' : D) (k : Known) (is : IsS
             let r = is.rests s told in
             let there = value s told t told' in
             rests_for t (reserved_in s.now.bytes) reserved there.0 (omega (arith, r.inside, there.1.others.long))
-            (new_marked s told t.now.bytes there.1) r.slots_are (ap (λ (m : ℕ). m + 4096) r.mark_is) r.low r.chain r.count
+            (new_marked s told t.now.bytes there.1) r.version_is r.slots_are
+            (ap (λ (m : ℕ). m + 4096) r.mark_is) r.low r.chain r.count
 
         pub reserve_spool : members.size_is d' ≡ members.size_is d → (members.told d ≡ None → members.told d' ≡ None) →
             IsSpool members (in_hand d' reserved)
         reserve_spool size untold = record {
+          version = is.version;
           some = is.some;
           most = is.most;
           fits = subst (λ n. slot_place k.slots ≤ n) (sym size) is.fits;
-          room = is.room;
+          from = is.from;
+          none = is.none;
           even = is.even;
+          room = is.room;
           numbers = is.numbers;
           mark_most = left;
           rests = rests_moved (members.told d) (members.told d') mark_cell (k.mark + 4096) reserved_in same_marked
@@ -124,12 +129,12 @@ module _ {D : Type 0} (members : disk.Ghosts D) (d d' : D) (k : Known) (is : IsS
   -- the floor was moved up to the next number
   module _ (one : 0 < k.len) where
     abbrev cleared : Known
-    cleared = record { slots = k.slots; first = k.next; next = k.next; len = 0; mark = k.mark }
+    cleared = record { version = k.version; slots = k.slots; first = k.next; next = k.next; len = 0; mark = k.mark }
 
     pub new_floored : (s : Story) → members.told d ≡ Some s → (image : List ℕ) →
         Holds s.now floor_cell (with_value k.next (cell_in s.now.bytes floor_cell)) image →
         StandsFor image (cleared_in k.next s.now.bytes)
-    new_floored s told = floored_anew s k (is.rests s told) is.some one
+    new_floored s told = floored_anew s k (is.rests s told) is.room one
 
     module _ (value : (s : Story) → members.told d ≡ Some s → HasValue s floor_cell k.next (members.told d')) where
       cleared_rests : (s t : Story) → members.told d ≡ Some s → members.told d' ≡ Some t → Rests t cleared
@@ -137,16 +142,20 @@ module _ {D : Type 0} (members : disk.Ghosts D) (d d' : D) (k : Known) (is : IsS
           let r = is.rests s told in
           let there = value s told t told' in
           rests_for t (cleared_in k.next s.now.bytes) cleared there.0 (omega (arith, r.inside, there.1.others.long))
-          (new_floored s told t.now.bytes there.1) r.slots_are r.mark_is (omega arith) refl refl
+          (new_floored s told t.now.bytes there.1) r.version_is r.slots_are r.mark_is
+          (omega arith) refl refl
 
       pub clear_spool : members.size_is d' ≡ members.size_is d → (members.told d ≡ None → members.told d' ≡ None) →
           IsSpool members (in_hand d' cleared)
       clear_spool size untold = record {
+        version = is.version;
         some = is.some;
         most = is.most;
         fits = subst (λ n. slot_place k.slots ≤ n) (sym size) is.fits;
+        from = omega arith;
+        none = λ empty. refl;
+        even = λ one. omega arith;
         room = omega arith;
-        even = omega arith;
         numbers = is.numbers;
         mark_most = is.mark_most;
         rests = rests_moved (members.told d) (members.told d') floor_cell k.next (cleared_in k.next) same_floored

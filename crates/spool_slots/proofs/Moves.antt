@@ -1,5 +1,5 @@
--- What the bytes stand for where one slot of a sound file is written.
-use Rattle.std.proofs.Common.{◌≡◌, ℕ, ◌+◌, ◌%◌, ◌<◌, ◌≤◌, ◌⊎◌, ◌==◌, ◌&&◌, nat_le, Bool, true, false, List, [], ◌∷◌}
+-- What the bytes stand for where slots of a sound file are written.
+use Rattle.std.proofs.Common.{◌≡◌, ◌⊎◌, ℕ, ◌+◌, ◌%◌, ◌<◌, ◌≤◌, ◌==◌, ◌&&◌, nat_le, Bool, true, false, if◌then◌else◌, List, [], ◌∷◌}
 use Rattle.std.proofs.Common.{◌++◌, length, drop, None, refl, sym, ap, subst, ◌∙◌, arith, inl, inr}
 use Rattle.std.proofs.Math.ListN.{set}
 use Rattle.std.proofs.lemmas.Bool.{cases_eq}
@@ -7,372 +7,344 @@ use Rattle.std.proofs.lemmas.Bool.Decides.{nat_tests}
 use Rattle.disk_base.specs.Story.{with_part}
 use Rattle.disk_base.proofs.Marks.{length-part}
 use Rattle.gate_cell.specs.Cell.{Cell, cell_in}
-use Rattle.spool_file.specs.Area.{first_of, or_else}
-use Rattle.spool_file.specs.File.{StandsFor, area_break, file_in, floor_in, gates_below, list_below, slot_message}
-use Rattle.spool_file.specs.File.{slot_stands, slots_in, spool_break}
-use Rattle.spool_file.specs.Front.{floor_cell, front_break, front_in, front_size, mark_cell, slots_of}
-use Rattle.spool_file.specs.Run.{IsChainFrom, width}
-use Rattle.spool_file.specs.Slot.{Message, Slot, head_break, is_open, message_of, slot_break, slot_in, slot_place}
-use Rattle.spool_file.specs.Slot.{stands_on}
+use Rattle.spool_file.specs.Area.{first_of, next_of}
+use Rattle.spool_file.specs.Breaks.{list_below, slot_stands}
+use Rattle.spool_file.specs.File.{StandsFor, file_in, frame_in, gates_below, slots_in, spool_break, version_in}
+use Rattle.spool_file.specs.Front.{floor_cell, front_break, front_in, front_size, mark_cell, slots_of, version_of}
+use Rattle.spool_file.specs.Run.{IsChainFrom}
+use Rattle.spool_file.specs.Sizes.{slots_for}
+use Rattle.spool_file.specs.Slot.{Message, Slot, head_break, is_open, slot_break, slot_in, slot_message, slot_place}
+use Rattle.spool_file.specs.Slot.{stands_on, width}
+use Rattle.spool_file.specs.declared.slot.Frame.{Frame}
 use Rattle.spool_file.proofs.Areas.{IsSameAt}
-use Rattle.spool_file.proofs.Firsts.{both_none}
 use Rattle.spool_file.proofs.Fresh.{made_file}
-use Rattle.spool_file.proofs.Fronts.{front_cell}
-use Rattle.spool_file.proofs.Gapless.{IsWhole, absent_none, good_is, good_none, good_width, kept_sound, sound_of}
-use Rattle.spool_file.proofs.Gapless.{stands_good}
+use Rattle.spool_file.proofs.Fronts.{front_cell, made_frame, version_either}
 use Rattle.spool_file.proofs.Gates.{closed_absent, one_gate, same_gates}
+use Rattle.spool_file.proofs.Others.{IsOfRow, list_stays, message_same, whole_stays}
 use Rattle.spool_file.proofs.Runs.{IsKept, chain_up}
-use Rattle.spool_file.proofs.Written.{front_beside, gate_stays, gate_written, others_stay}
-use Rattle.spool_slots.specs.Changes.{dropped_in, sealed_in, shut_in}
+use Rattle.spool_file.proofs.Sound.{IsFull, IsWhole, absent_none, good_is, good_none, width_is}
+use Rattle.spool_file.proofs.Wholes.{full_in, kept_area, sound_front, sound_kept, sound_slots, spool_sound}
+use Rattle.spool_file.proofs.Written.{front_beside, gate_written, others_stay}
+use Rattle.spool_slots.specs.Files.{dropped_in, sealed_in, with_gates}
 use Rattle.spool_slots.proofs.Changes.{closes, closes_kept, opens, opens_kept, same_kept, same_list}
 
 -- the same front has the same cells
 same_cell : (bytes image : List ℕ) (at : ℕ) → at + 17 ≤ front_size → front_in image ≡ front_in bytes →
-    cell_in bytes at ≡ cell_in image at
+    cell_in image at ≡ cell_in bytes at
 same_cell bytes image at within same =
-    front_cell at front_size bytes within
-    ∙ ap (λ (f : List ℕ). cell_in f at) (sym same)
-    ∙ sym (front_cell at front_size image within)
+    front_cell at front_size image within
+    ∙ ap (λ (f : List ℕ). cell_in f at) same
+    ∙ sym (front_cell at front_size bytes within)
 
--- bytes with the same front and sound slots
-pub stands_now : (bytes image : List ℕ) (slots : ℕ) (gates : List Bool) (list : List Message) →
-    front_in image ≡ front_in bytes → length image ≡ length bytes →
-    front_break (front_in bytes) (length bytes) ≡ None → slots ≡ slots_in bytes →
-    area_break (floor_in bytes) (slot_in image) slots ≡ None →
-    gates_below (slot_in image) slots ≡ gates → list_below (floor_in bytes) (slot_in image) slots ≡ list →
-    StandsFor image (made_file (slots_in bytes) gates (cell_in bytes mark_cell) (cell_in bytes floor_cell) list)
-stands_now bytes image slots gates list same long front slots_are area gates_are is =
-    let slots_now : slots ≡ slots_in image = slots_are ∙ ap slots_of (sym same) in
-    let floor_now = same_cell bytes image floor_cell (omega arith) same in
-    let there : (slots_in bytes ≡ slots_in image) × (gates ≡ (file_in image).gates) × (list ≡ (file_in image).list) = (
-      sym slots_are ∙ slots_now,
-      sym gates_are ∙ ap (λ (n : ℕ). gates_below (slot_in image) n) slots_now,
-      sym is ∙ ap (λ (c : Cell). list_below c.value (slot_in image) slots) floor_now
-          ∙ ap (λ (n : ℕ). list_below (floor_in image) (slot_in image) n) slots_now,
-    ) in
-    record {
-      sound =
-          ap (λ o. or_else o (area_break (floor_in image) (slot_in image) (slots_in image)))
-          (ap (λ (f : List ℕ). front_break f (length image)) same ∙ ap (λ (n : ℕ). front_break (front_in bytes) n) long
-          ∙ front)
-          ∙ ap (λ (n : ℕ). area_break (floor_in image) (slot_in image) n) (sym slots_now)
-          ∙ ap (λ (c : Cell). area_break c.value (slot_in image) slots) (sym floor_now) ∙ area;
-      is =
-          ap (λ (n : ℕ). made_file n gates (cell_in bytes mark_cell) (cell_in bytes floor_cell) list) there.0
-          ∙ ap (λ (g : List Bool). made_file (slots_in image) g (cell_in bytes mark_cell) (cell_in bytes floor_cell)
-          list) there.1
-          ∙ ap (λ (c : Cell). made_file (slots_in image) (file_in image).gates c (cell_in bytes floor_cell) list)
-          (same_cell bytes image mark_cell (omega arith) same)
-          ∙ ap (λ (c : Cell). made_file (slots_in image) (file_in image).gates (cell_in image mark_cell) c list)
-          floor_now
-          ∙ ap (λ (l : List Message). made_file (slots_in image) (file_in image).gates (cell_in image mark_cell)
-          (cell_in image floor_cell) l) there.2;
-    }
-
--- slots before and now, above a floor
-module _ (floor : ℕ) (f g : ℕ → Slot) (k : ℕ) where
-  abbrev IsSameSlot : Type 0
-  IsSameSlot = IsSameAt (slot_stands floor f) (slot_stands floor g) (slot_message f) (slot_message g) k
-
-  -- one that is the same holds the same
-  pub slot_same : g k ≡ f k → IsSameSlot
-  slot_same same = record { stays = ap (stands_on floor) same; same = λ there. ap message_of same }
-
-  -- one that doesn't stand both times holds nothing
-  pub slot_absent : stands_on floor (f k) ≡ false → stands_on floor (g k) ≡ false → IsSameSlot
-  slot_absent was now = record {
-    stays = now ∙ sym was;
-    same = λ there. let stood : stands_on floor (f k) ≡ true = there in absurd (grind (arith, stood, was));
-  }
-
--- a sound file in which one slot is written
-module _ (bytes : List ℕ) (slots first next : ℕ) (sound : spool_break bytes ≡ None)
-    (inside : slot_place slots ≤ length bytes)
-    (slots_are : slots ≡ slots_in bytes) (low : floor_in bytes ≤ first)
-    (chain : IsChainFrom first next (file_in bytes).list) where
+-- a sound file
+module _ (bytes : List ℕ) (frame : Frame) (frame_is : frame ≡ frame_in bytes) (first next : ℕ)
+    (sound : spool_break bytes ≡ None) (low : frame.floor ≤ first)
+    (chain : IsChainFrom first next (file_in bytes).list) (room : next ≤ first + frame.slots) where
   abbrev old : ℕ → Slot
   old = slot_in bytes
 
-  abbrev floor : ℕ
-  floor = floor_in bytes
+  abbrev slots : ℕ
+  slots = frame.slots
 
-  both : (front_break (front_in bytes) (length bytes) ≡ None) × (area_break floor old (slots_in bytes) ≡ None)
-  both = both_none (front_break (front_in bytes) (length bytes)) (area_break floor old (slots_in bytes)) sound
+  slots_are : slots ≡ slots_in bytes
+  slots_are = ap (λ (f : Frame). f.slots) frame_is
 
-  pub listed : (file_in bytes).list ≡ list_below floor old slots
-  listed = ap (λ (n : ℕ). list_below floor old n) (sym slots_are)
+  pub inside : slot_place slots ≤ length bytes
+  inside = subst (λ n. slot_place n ≤ length bytes) (sym slots_are) (sound_slots bytes sound).fits
 
-  -- the next message stands, too
-  next_low : floor ≤ next
-  next_low = omega (arith, low, chain_up first next (file_in bytes).list chain)
+  pub some : 1 ≤ slots
+  some = subst (λ n. 1 ≤ n) (sym slots_are) (sound_slots bytes sound).some
+
+  pub full : IsFull old slots
+  full = full_in bytes slots inside
+
+  version : (frame.version ≡ 1) ⊎ (frame.version ≡ 2)
+  version = subst (λ (f : Frame). (f.version ≡ 1) ⊎ (f.version ≡ 2)) (sym frame_is) (version_either (front_in bytes))
+
+  pub listed : (file_in bytes).list ≡ list_below frame old slots
+  listed = ap (λ (f : Frame). list_below f old f.slots) (sym frame_is)
 
   gated : (file_in bytes).gates ≡ gates_below old slots
   gated = ap (λ (n : ℕ). gates_below old n) (sym slots_are)
 
-  -- the slot of a number
-  slot_is : (number j : ℕ) → number % slots ≡ j → j ≡ number % slots_in bytes
-  slot_is number j place = sym place ∙ ap (λ (n : ℕ). number % n) slots_are
+  from : first ≤ next
+  from = let up = chain_up first next (file_in bytes).list chain in omega (arith, up)
 
-  fields : (k : ℕ) → k < slots → slot_break floor slots k (old k) ≡ None
-  fields = (sound_of floor old slots (subst (λ n. area_break floor old n ≡ None) (sym slots_are) both.1)).fields
+  pub whole : IsWhole frame old first next
+  whole =
+      let is = subst (λ (f : Frame). IsWhole f old (first_of f.floor (list_below f old f.slots))
+      (next_of f.floor (list_below f old f.slots))) (sym frame_is) (sound_kept bytes sound) in
+      record {
+        fields = is.fields;
+        kept = record { places = is.kept.places; chain = subst (IsChainFrom first next) listed chain };
+        room = room;
+      }
 
-  pub kept : IsKept (slot_stands floor old) (slot_message old) slots first next
-  kept = record {
-    places = λ k below there. (stands_good floor slots k (old k) (fields k below) there).place;
-    chain = subst (IsChainFrom first next) listed chain;
-  }
+  -- bytes with the same front whose slots hold a chain
+  pub stands_now : (image : List ℕ) (first' next' : ℕ) (gates : List Bool) (list : List Message) →
+      front_in image ≡ front_in bytes → length image ≡ length bytes → IsWhole frame (slot_in image) first' next' →
+      gates_below (slot_in image) slots ≡ gates → list_below frame (slot_in image) slots ≡ list →
+      StandsFor image (made_file (version_in bytes) (slots_in bytes) gates (cell_in bytes mark_cell)
+      (cell_in bytes floor_cell) list)
+  stands_now image first' next' gates list same long is gates_are list_is =
+      let floor = same_cell bytes image floor_cell (omega arith) same in
+      let frame_now : frame ≡ frame_in image =
+      frame_is
+      ∙ ap (λ (f : List ℕ). made_frame (version_of f) (slots_of f) (cell_in bytes floor_cell).value) (sym same)
+      ∙ ap (λ (c : Cell). made_frame (version_in image) (slots_in image) c.value) (sym floor) in
+      let here = cell_in bytes mark_cell in
+      let there = cell_in bytes floor_cell in
+      let inside_now : slot_place slots ≤ length image = omega (arith, inside, long) in
+      record {
+        sound = spool_sound image frame
+            (ap (λ (f : List ℕ). front_break f (length image)) same
+            ∙ ap (λ (n : ℕ). front_break (front_in bytes) n) long ∙ sound_front bytes sound) frame_now
+            (kept_area frame (slot_in image) version (full_in image slots inside_now) some first' next' is);
+        is =
+            ap (λ (f : List ℕ). made_file (version_of f) (slots_of f) gates here there list) (sym same)
+            ∙ ap (λ (g : List Bool). made_file (version_in image) (slots_in image) g here there list)
+            (sym gates_are ∙ ap (λ (f : Frame). gates_below (slot_in image) f.slots) frame_now)
+            ∙ ap (λ (c : Cell). made_file (version_in image) (slots_in image) (file_in image).gates c there list)
+            (sym (same_cell bytes image mark_cell (omega arith) same))
+            ∙ ap (λ (c : Cell). made_file (version_in image) (slots_in image) (file_in image).gates
+            (cell_in image mark_cell) c list) (sym floor)
+            ∙ ap (λ (l : List Message). made_file (version_in image) (slots_in image) (file_in image).gates
+            (cell_in image mark_cell) (cell_in image floor_cell) l)
+            (sym list_is ∙ ap (λ (f : Frame). list_below f (slot_in image) f.slots) frame_now);
+      }
 
-  fits : (j at p long : ℕ) → at ≡ slot_place j + p → j < slots → p + long ≤ 4096 → at + long ≤ length bytes
-  fits j at p long is below short = omega (arith, is, below, short, inside)
+  -- ---- the slots of a put
 
-  -- a part was written into slot j
-  module _ (j at p : ℕ) (part : List ℕ) (at_is : at ≡ slot_place j + p) (below : j < slots)
-      (short : p + length part ≤ 4096) where
-    abbrev image : List ℕ
-    image = with_part bytes at part
+  -- slots of numbers behind all messages may have changed, as long as none of them stands, before or now
+  pub row_stands : (image : List ℕ) (n : ℕ) → front_in image ≡ front_in bytes → length image ≡ length bytes →
+      next + n ≤ first + slots →
+      ((k : ℕ) → k < slots → (IsOfRow slots next n k → ⊥) → slot_in image k ≡ old k) →
+      ((k : ℕ) → k < slots → IsOfRow slots next n k → stands_on frame.floor (old k) ≡ false) →
+      ((k : ℕ) → k < slots → IsOfRow slots next n k → stands_on frame.floor (slot_in image k) ≡ false) →
+      StandsFor image (with_gates (gates_below (slot_in image) slots) (file_in bytes))
+  row_stands image n same long fits others before now =
+      stands_now image first next (gates_below (slot_in image) slots) (file_in bytes).list same long
+      (whole_stays frame old (slot_in image) first next n some full whole fits from others before now) refl
+      (list_stays frame old (slot_in image) first next n some full whole fits from others before now ∙ sym listed)
 
-    within : at + length part ≤ length bytes
-    within = fits j at p (length part) at_is below short
+  -- ---- the gate of a slot
 
-    beside : (k : ℕ) → k < slots → (k ≡ j → ⊥) → slot_in image k ≡ old k
-    beside k less other = others_stay bytes part j k at p at_is within short other
-
-    pub same_beside : (k : ℕ) → k < slots → (k ≡ j → ⊥) →
-        IsSameSlot floor old (slot_in image) k
-    same_beside k less other = slot_same floor old (slot_in image) k (beside k less other)
-
-    -- which slots are open
-    open_beside : (k : ℕ) → k < slots → (k ≡ j → ⊥) → is_open (slot_in image k) ≡ is_open (old k)
-    open_beside k less other = ap is_open (beside k less other)
-
-    open_at : is_open (slot_in image j) ≡ is_open (old j) → (k : ℕ) → (k ≡ j) ⊎ (k ≡ j → ⊥) → k < slots →
-        is_open (slot_in image k) ≡ is_open (old k)
-    open_at same k (inl here) less = subst (λ i. is_open (slot_in image i) ≡ is_open (old i)) (sym here) same
-    open_at same k (inr other) less = open_beside k less other
-
-    pub gates_stay : is_open (slot_in image j) ≡ is_open (old j) →
-        gates_below (slot_in image) slots ≡ (file_in bytes).gates
-    gates_stay same = same_gates old (slot_in image) slots (λ k less. open_at same k (cases_eq k j) less) ∙ sym gated
-
-    pub gates_set : (b : Bool) (number : ℕ) → is_open (slot_in image j) ≡ b → number % slots ≡ j →
-        gates_below (slot_in image) slots ≡ set (file_in bytes).gates (number % slots_in bytes) b
-    gates_set b number is place =
-        one_gate old (slot_in image) j b is slots below open_beside
-        ∙ ap (λ (gates : List Bool). set gates j b) (sym gated)
-        ∙ ap (λ (i : ℕ). set (file_in bytes).gates i b) (slot_is number j place)
-
-    field_at : (k : ℕ) → (k ≡ j) ⊎ (k ≡ j → ⊥) → k < slots → slot_break floor slots j (slot_in image j) ≡ None →
-        slot_break floor slots k (slot_in image k) ≡ None
-    field_at k (inl here) less good = subst (λ i. slot_break floor slots i (slot_in image i) ≡ None) (sym here) good
-    field_at k (inr other) less good = ap (λ s. slot_break floor slots k s) (beside k less other) ∙ fields k less
-
-    -- which passes the tests still
-    module _ (good : slot_break floor slots j (slot_in image j) ≡ None) where
-      pub whole : (first' next' : ℕ) →
-          IsKept (slot_stands floor (slot_in image)) (slot_message (slot_in image)) slots first' next' →
-          IsWhole floor (slot_in image) slots first' next'
-      whole first' next' is = record { fields = λ k less. field_at k (cases_eq k j) less good; kept = is }
-
-      pub stands : (first' next' : ℕ) (gates : List Bool) (list : List Message) →
-          IsKept (slot_stands floor (slot_in image)) (slot_message (slot_in image)) slots first' next' →
-          gates_below (slot_in image) slots ≡ gates → list_below floor (slot_in image) slots ≡ list →
-          StandsFor image (made_file (slots_in bytes) gates (cell_in bytes mark_cell) (cell_in bytes floor_cell) list)
-      stands first' next' gates list is gates_are same =
-          stands_now bytes image slots gates list (front_beside bytes part at within (omega (arith, at_is)))
-          (length-part bytes part at within) both.0 slots_are
-          (kept_sound floor (slot_in image) slots first' next' (whole first' next' is)) gates_are same
-
-    -- a slot that doesn't stand, and doesn't still
-    module _ (was : stands_on floor (old j) ≡ false) (still : stands_on floor (slot_in image j) ≡ false) where
-      same_at : (k : ℕ) → (k ≡ j) ⊎ (k ≡ j → ⊥) → k < slots → IsSameSlot floor old (slot_in image) k
-      same_at k (inl here) less =
-          subst (λ i. IsSameSlot floor old (slot_in image) i) (sym here)
-          (slot_absent floor old (slot_in image) j was still)
-      same_at k (inr other) less = same_beside k less other
-
-      shut_kept : IsKept (slot_stands floor (slot_in image)) (slot_message (slot_in image)) slots first next
-      shut_kept = same_kept (slot_stands floor old) (slot_stands floor (slot_in image)) (slot_message old)
-          (slot_message (slot_in image)) slots first next kept
-          (λ k less. same_at k (cases_eq k j) less)
-
-      shut_stands : (gates : List Bool) → gates_below (slot_in image) slots ≡ gates →
-          StandsFor image (made_file (slots_in bytes) gates (cell_in bytes mark_cell) (cell_in bytes floor_cell)
-          (file_in bytes).list)
-      shut_stands gates gates_are =
-          stands (absent_none floor slots j (slot_in image j) still) first next gates (file_in bytes).list shut_kept
-          gates_are
-          (same_list (slot_stands floor old) (slot_stands floor (slot_in image)) (slot_message old)
-          (slot_message (slot_in image)) slots first next kept
-          (λ k less. same_at k (cases_eq k j) less) ∙ sym listed)
-
-  -- the parts of a closed slot
-  pub parts_same : (j : ℕ) → j < slots → is_open (old j) ≡ false → (part : List ℕ) → 1 + length part ≤ 4096 →
-      StandsFor (with_part bytes (slot_place j + 1) part) (file_in bytes)
-  parts_same j below closed part short =
-      let same : is_open (slot_in (with_part bytes (slot_place j + 1) part) j) ≡ is_open (old j) =
-      ap (λ (gate : ℕ). gate == 90)
-      (gate_stays bytes part j (fits j (slot_place j + 1) 1 (length part) refl below short)) in
-      shut_stands j (slot_place j + 1) 1 part refl below short (closed_absent floor (old j) closed)
-      (closed_absent floor (slot_in (with_part bytes (slot_place j + 1) part) j) (same ∙ closed)) (file_in bytes).gates
-      (gates_stay j (slot_place j + 1) 1 part refl below short same)
-
-  -- the gate of a slot
   module _ (j : ℕ) (below : j < slots) (gate : ℕ) where
     abbrev now : List ℕ
     now = with_part bytes (slot_place j) (gate ∷ [])
 
-    at_is : slot_place j ≡ slot_place j + 0
-    at_is = omega arith
+    page : slot_place j + 4096 ≤ length bytes
+    page = omega (arith, below, inside)
 
-    room : slot_place j + 4096 ≤ length bytes
-    room = omega (arith, below, inside)
+    within : slot_place j + length (gate ∷ []) ≤ length bytes
+    within = omega (arith, page)
 
     slot_now : slot_in now j ≡ record { gate = gate; head = (old j).head; area = (old j).area }
-    slot_now = gate_written bytes j gate room
+    slot_now = gate_written bytes j gate page
+
+    beside : (k : ℕ) → (k ≡ j → ⊥) → slot_in now k ≡ old k
+    beside k other = others_stay bytes (gate ∷ []) j k (slot_place j) 0 (omega arith) within (omega arith) other
+
+    head_by : (k : ℕ) → (k ≡ j) ⊎ (k ≡ j → ⊥) → (slot_in now k).head ≡ (old k).head
+    head_by k (inl here) = subst (λ i. (slot_in now i).head ≡ (old i).head) (sym here)
+        (ap (λ (s : Slot). s.head) slot_now)
+    head_by k (inr other) = ap (λ (s : Slot). s.head) (beside k other)
+
+    area_by : (k : ℕ) → (k ≡ j) ⊎ (k ≡ j → ⊥) → (slot_in now k).area ≡ (old k).area
+    area_by k (inl here) = subst (λ i. (slot_in now i).area ≡ (old i).area) (sym here)
+        (ap (λ (s : Slot). s.area) slot_now)
+    area_by k (inr other) = ap (λ (s : Slot). s.area) (beside k other)
+
+    -- all messages are as they were, whether they stand or not
+    pub messages : (k : ℕ) → slot_message slots (slot_in now) k ≡ slot_message slots old k
+    messages k = message_same old (slot_in now) slots k (head_by k (cases_eq k j)) (area_by k (cases_eq k j))
+        (λ p some less. area_by (((old k).head.number + p) % slots) (cases_eq (((old k).head.number + p) % slots) j))
 
     gate_is : is_open (slot_in now j) ≡ (gate == 90)
     gate_is = ap is_open slot_now
 
-    message_is : message_of (slot_in now j) ≡ message_of (old j)
-    message_is = ap message_of slot_now
+    same_beside : (k : ℕ) → k < slots → (k ≡ j → ⊥) → IsSameAt (slot_stands frame.floor old)
+        (slot_stands frame.floor (slot_in now)) (slot_message slots old) (slot_message slots (slot_in now)) k
+    same_beside k less other = record {
+      stays = ap (stands_on frame.floor) (beside k other);
+      same = λ there. messages k;
+    }
 
-    short : 0 + length (gate ∷ []) ≤ 4096
-    short = omega arith
+    -- which slots are open
+    open_beside : (k : ℕ) → k < slots → (k ≡ j → ⊥) → is_open (slot_in now k) ≡ is_open (old k)
+    open_beside k less other = ap is_open (beside k other)
 
-    others : (k : ℕ) → k < slots → (k ≡ j → ⊥) →
-        IsSameSlot floor old (slot_in now) k
-    others = same_beside j (slot_place j) 0 (gate ∷ []) at_is below short
+    gates_set : (b : Bool) (number : ℕ) → (gate == 90) ≡ b → number % slots ≡ j →
+        gates_below (slot_in now) slots ≡ set (file_in bytes).gates (number % slots_in bytes) b
+    gates_set b number is place =
+        one_gate old (slot_in now) j b (gate_is ∙ is) slots below open_beside
+        ∙ ap (λ (gates : List Bool). set gates j b) (sym gated)
+        ∙ ap (λ (i : ℕ). set (file_in bytes).gates i b) (sym place ∙ ap (λ (n : ℕ). number % n) slots_are)
 
-    -- which is closed then
-    absent_now : (gate == 90) ≡ false → stands_on floor (slot_in now j) ≡ false
-    absent_now shut = closed_absent floor (slot_in now j) (gate_is ∙ shut)
+    open_at : is_open (slot_in now j) ≡ is_open (old j) → (k : ℕ) → (k ≡ j) ⊎ (k ≡ j → ⊥) → k < slots →
+        is_open (slot_in now k) ≡ is_open (old k)
+    open_at same k (inl here) less = subst (λ i. is_open (slot_in now i) ≡ is_open (old i)) (sym here) same
+    open_at same k (inr other) less = open_beside k less other
 
-    -- of a slot that doesn't stand
-    pub shut_stale : stands_on floor (old j) ≡ false → (number : ℕ) → number % slots ≡ j → (gate == 90) ≡ false →
-        StandsFor now (shut_in number bytes)
-    shut_stale absent number place shut =
-        shut_stands j (slot_place j) 0 (gate ∷ []) at_is below short absent (absent_now shut)
-        (shut_in number bytes).gates
-        (gates_set j (slot_place j) 0 (gate ∷ []) at_is below short false number (gate_is ∙ shut) place)
+    gates_stay : is_open (slot_in now j) ≡ is_open (old j) → gates_below (slot_in now) slots ≡ (file_in bytes).gates
+    gates_stay same = same_gates old (slot_in now) slots (λ k less. open_at same k (cases_eq k j) less) ∙ sym gated
 
-    -- of a closed one
-    module _ (closed : is_open (old j) ≡ false) where
-      pub shut_same : (gate == 90) ≡ false → StandsFor now (file_in bytes)
-      shut_same shut =
-          shut_stands j (slot_place j) 0 (gate ∷ []) at_is below short (closed_absent floor (old j) closed)
-          (absent_now shut) (file_in bytes).gates
-          (gates_stay j (slot_place j) 0 (gate ∷ []) at_is below short (gate_is ∙ shut ∙ sym closed))
+    field_by : slot_break frame j (slot_in now j) ≡ None → (k : ℕ) → (k ≡ j) ⊎ (k ≡ j → ⊥) → k < slots →
+        slot_break frame k (slot_in now k) ≡ None
+    field_by good k (inl here) less = subst (λ i. slot_break frame i (slot_in now i) ≡ None) (sym here) good
+    field_by good k (inr other) less = ap (slot_break frame k) (beside k other) ∙ whole.fields k less
 
-      module _ (opened : (gate == 90) ≡ true) (good : head_break slots j (old j).head ≡ None)
-          (number : (old j).head.number ≡ next) where
-        number_now : (slot_in now j).head.number ≡ next
-        number_now = ap (λ (s : Slot). s.head.number) slot_now ∙ number
+    -- which passes the tests still
+    stands_with : slot_break frame j (slot_in now j) ≡ None → (first' next' : ℕ) (gates : List Bool)
+        (list : List Message) →
+        IsKept (slot_stands frame.floor (slot_in now)) (slot_message slots (slot_in now)) slots first' next' →
+        next' ≤ first' + slots → gates_below (slot_in now) slots ≡ gates →
+        list_below frame (slot_in now) slots ≡ list →
+        StandsFor now (made_file (version_in bytes) (slots_in bytes) gates (cell_in bytes mark_cell)
+        (cell_in bytes floor_cell) list)
+    stands_with good first' next' gates list kept fits gates_are list_is =
+        stands_now now first' next' gates list
+        (front_beside bytes (gate ∷ []) (slot_place j) within (omega arith))
+        (length-part bytes (gate ∷ []) (slot_place j) within)
+        (record { fields = λ k less. field_by good k (cases_eq k j) less; kept = kept; room = fits }) gates_are list_is
 
-        place_now : (slot_in now j).head.number % slots ≡ j
-        place_now = ap (λ (s : Slot). s.head.number % slots) slot_now ∙ (good_is slots j (old j).head good).place
+    absent_now : (gate == 90) ≡ false → stands_on frame.floor (slot_in now j) ≡ false
+    absent_now shut = closed_absent frame.floor (slot_in now j) (gate_is ∙ shut)
 
-        good_now : slot_break floor slots j (slot_in now j) ≡ None
-        good_now = good_none floor slots j (slot_in now j)
-            (ap (λ (s : Slot). head_break slots j s.head) slot_now ∙ good)
+    -- ---- that changes nothing, since the slot stands as before
 
-        stood_now : stands_on floor (slot_in now j) ≡ true
-        stood_now =
-            let over : nat_le floor (old j).head.number ≡ true = grind (arith, nat_tests, number, next_low) in
-            ap (stands_on floor) slot_now ∙ ap (λ (b : Bool). b && nat_le floor (old j).head.number) opened ∙ over
+    module _ (stays : stands_on frame.floor (slot_in now j) ≡ stands_on frame.floor (old j)) where
+      same_by : (k : ℕ) → (k ≡ j) ⊎ (k ≡ j → ⊥) → k < slots → IsSameAt (slot_stands frame.floor old)
+          (slot_stands frame.floor (slot_in now)) (slot_message slots old) (slot_message slots (slot_in now)) k
+      same_by k (inl here) less = record {
+        stays = subst (λ i. stands_on frame.floor (slot_in now i) ≡ stands_on frame.floor (old i)) (sym here) stays;
+        same = λ there. messages k;
+      }
+      same_by k (inr other) less = same_beside k less other
 
-        pub open_kept : IsKept (slot_stands floor (slot_in now)) (slot_message (slot_in now)) slots first
-            (next + width (message_of (slot_in now j)))
-        open_kept = opens_kept (slot_stands floor old) (slot_stands floor (slot_in now)) (slot_message old)
-            (slot_message (slot_in now)) slots first next kept j below others
-            (closed_absent floor (old j) closed) stood_now place_now number_now
+      good_by : (b : Bool) → stands_on frame.floor (old j) ≡ b → slot_break frame j (slot_in now j) ≡ None
+      good_by false is = absent_none frame j (slot_in now j) (stays ∙ is)
+      good_by true is = good_none frame j (slot_in now j)
+          (ap (λ (s : Slot). head_break frame j s.head) slot_now
+          ∙ ap (λ (b : Bool). if b then head_break frame j (old j).head else None) (sym is) ∙ whole.fields j below)
 
-        open_list : list_below floor (slot_in now) slots ≡ (file_in bytes).list ++ message_of (old j) ∷ []
-        open_list =
-            opens (slot_stands floor old) (slot_stands floor (slot_in now)) (slot_message old)
-            (slot_message (slot_in now)) slots first next kept j below others
-            (closed_absent floor (old j) closed) stood_now place_now number_now
-            ∙ ap (λ m. list_below floor old slots ++ m ∷ []) message_is
-            ∙ ap (λ list. list ++ message_of (old j) ∷ []) (sym listed)
+      pub gate_stands : (gates : List Bool) → gates_below (slot_in now) slots ≡ gates →
+          StandsFor now (with_gates gates (file_in bytes))
+      gate_stands gates gates_are =
+          stands_with (good_by (stands_on frame.floor (old j)) refl) first next gates (file_in bytes).list
+          (same_kept (slot_stands frame.floor old) (slot_stands frame.floor (slot_in now)) (slot_message slots old)
+          (slot_message slots (slot_in now)) slots first next whole.kept
+          (λ k less. same_by k (cases_eq k j) less)) room gates_are
+          (same_list (slot_stands frame.floor old) (slot_stands frame.floor (slot_in now)) (slot_message slots old)
+          (slot_message slots (slot_in now)) slots first next whole.kept
+          (λ k less. same_by k (cases_eq k j) less) ∙ sym listed)
 
-        pub open_more : StandsFor now (sealed_in j bytes)
-        open_more = stands j (slot_place j) 0 (gate ∷ []) at_is below short good_now first
-            (next + width (message_of (slot_in now j)))
-            (sealed_in j bytes).gates (sealed_in j bytes).list open_kept
-            (gates_set j (slot_place j) 0 (gate ∷ []) at_is below short true (old j).head.number (gate_is ∙ opened)
-            (good_is slots j (old j).head good).place) open_list
+    -- of an open slot, with a byte that opens it
+    pub still_same : is_open (old j) ≡ true → (gate == 90) ≡ true → StandsFor now (file_in bytes)
+    still_same opened again =
+        let stays : stands_on frame.floor (slot_in now j) ≡ stands_on frame.floor (old j) =
+        ap (stands_on frame.floor) slot_now
+        ∙ ap (λ (b : Bool). b && nat_le frame.floor (old j).head.number) (again ∙ sym opened) in
+        gate_stands stays (file_in bytes).gates (gates_stay (gate_is ∙ again ∙ sym opened))
 
-        pub open_chain : IsChainFrom first (next + width (message_of (old j))) (sealed_in j bytes).list
-        open_chain =
-            subst (λ (m : Message). IsChainFrom first (next + width m) (sealed_in j bytes).list) message_is
-            (subst (IsChainFrom first (next + width (message_of (slot_in now j)))) open_list open_kept.chain)
+    -- of a closed one, with a byte that closes it
+    pub shut_same : is_open (old j) ≡ false → (gate == 90) ≡ false → StandsFor now (file_in bytes)
+    shut_same closed shut =
+        let stays : stands_on frame.floor (slot_in now j) ≡ stands_on frame.floor (old j) =
+        absent_now shut ∙ sym (closed_absent frame.floor (old j) closed) in
+        gate_stands stays (file_in bytes).gates (gates_stay (gate_is ∙ shut ∙ sym closed))
 
-    -- of an open one
-    module _ (opened : is_open (old j) ≡ true) where
-      same_slot : (gate == 90) ≡ true → slot_in now j ≡ old j
-      same_slot again =
-          let gates : gate ≡ (old j).gate = grind (arith, nat_tests, again, opened) in
-          slot_now
-          ∙ ap (λ (g : ℕ). record_with g) gates where
-            record_with : ℕ → Slot
-            record_with g = record { gate = g; head = (old j).head; area = (old j).area }
+    -- ---- that opens the slot of the next message
 
-      all_at : (gate == 90) ≡ true → (k : ℕ) → (k ≡ j) ⊎ (k ≡ j → ⊥) → k < slots → IsSameSlot floor old (slot_in now) k
-      all_at again k (inl here) less =
-          subst (λ i. IsSameSlot floor old (slot_in now) i) (sym here)
-          (slot_same floor old (slot_in now) j (same_slot again))
-      all_at again k (inr other) less = others k less other
+    module _ (closed : is_open (old j) ≡ false) (opened : (gate == 90) ≡ true)
+        (good : head_break frame j (old j).head ≡ None) (number : (old j).head.number ≡ next)
+        (fits : next + slots_for (old j).head.len ≤ first + slots) where
+      abbrev message : Message
+      message = slot_message slots old j
 
-      pub still_same : (gate == 90) ≡ true → StandsFor now (file_in bytes)
-      still_same again =
-          stands j (slot_place j) 0 (gate ∷ []) at_is below short
-          (ap (λ s. slot_break floor slots j s) (same_slot again) ∙ fields j below) first next
-          (file_in bytes).gates (file_in bytes).list
-          (same_kept (slot_stands floor old) (slot_stands floor (slot_in now)) (slot_message old)
-          (slot_message (slot_in now)) slots first next kept
-          (λ k less. all_at again k (cases_eq k j) less))
-          (gates_stay j (slot_place j) 0 (gate ∷ []) at_is below short (ap is_open (same_slot again)))
-          (same_list (slot_stands floor old) (slot_stands floor (slot_in now)) (slot_message old)
-          (slot_message (slot_in now)) slots first next kept
-          (λ k less. all_at again k (cases_eq k j) less) ∙ sym listed)
+      place_now : (slot_in now j).head.number % slots ≡ j
+      place_now = ap (λ (s : Slot). s.head.number % slots) slot_now ∙ (good_is frame j (old j).head good).place
 
-    -- of one that stands
-    module _ (stood : stands_on floor (old j) ≡ true) (number : (old j).head.number ≡ first) where
-      close_kept : (gate == 90) ≡ false →
-          IsKept (slot_stands floor (slot_in now)) (slot_message (slot_in now)) slots
-          (first + width (message_of (old j))) next
-      close_kept shut = closes_kept (slot_stands floor old) (slot_stands floor (slot_in now)) (slot_message old)
-          (slot_message (slot_in now)) slots first next kept j below others
+      good_now : slot_break frame j (slot_in now j) ≡ None
+      good_now = good_none frame j (slot_in now j) (ap (λ (s : Slot). head_break frame j s.head) slot_now ∙ good)
+
+      stood_now : stands_on frame.floor (slot_in now j) ≡ true
+      stood_now =
+          let next_low : frame.floor ≤ next = omega (arith, low, from) in
+          let over : nat_le frame.floor (old j).head.number ≡ true = grind (arith, nat_tests, number, next_low) in
+          ap (stands_on frame.floor) slot_now
+          ∙ ap (λ (b : Bool). b && nat_le frame.floor (old j).head.number) opened ∙ over
+
+      number_now : (slot_in now j).head.number ≡ next
+      number_now = ap (λ (s : Slot). s.head.number) slot_now ∙ number
+
+      open_kept : IsKept (slot_stands frame.floor (slot_in now)) (slot_message slots (slot_in now)) slots first
+          (next + width (slot_message slots (slot_in now) j))
+      open_kept = opens_kept (slot_stands frame.floor old) (slot_stands frame.floor (slot_in now))
+          (slot_message slots old) (slot_message slots (slot_in now)) slots first next whole.kept j below same_beside
+          (closed_absent frame.floor (old j) closed) stood_now place_now number_now
+
+      open_list : list_below frame (slot_in now) slots ≡ (file_in bytes).list ++ message ∷ []
+      open_list =
+          opens (slot_stands frame.floor old) (slot_stands frame.floor (slot_in now)) (slot_message slots old)
+          (slot_message slots (slot_in now)) slots first next whole.kept j below same_beside
+          (closed_absent frame.floor (old j) closed) stood_now place_now number_now
+          ∙ ap (λ (m : Message). list_below frame old slots ++ m ∷ []) (messages j)
+          ∙ ap (λ (list : List Message). list ++ message ∷ []) (sym listed)
+
+      pub wide : width message ≡ slots_for (old j).head.len
+      wide = width_is old slots full some j below
+
+      pub open_more : StandsFor now (sealed_in j bytes)
+      open_more =
+          let same_wide : width (slot_message slots (slot_in now) j) ≡ slots_for (old j).head.len =
+          ap width (messages j) ∙ wide in
+          let number_in : slot_message slots old j ≡ slot_message (slots_in bytes) old j =
+          ap (λ (n : ℕ). slot_message n old j) slots_are in
+          subst (λ (m : Message). StandsFor now (made_file (version_in bytes) (slots_in bytes)
+          (set (file_in bytes).gates (m.number % slots_in bytes) true) (cell_in bytes mark_cell)
+          (cell_in bytes floor_cell) ((file_in bytes).list ++ m ∷ []))) number_in
+          (stands_with good_now first (next + width (slot_message slots (slot_in now) j))
+          (set (file_in bytes).gates (message.number % slots_in bytes) true) ((file_in bytes).list ++ message ∷ [])
+          open_kept (omega (arith, same_wide, fits))
+          (gates_set true (old j).head.number opened (good_is frame j (old j).head good).place) open_list)
+
+      pub open_chain : IsChainFrom first (next + slots_for (old j).head.len) ((file_in bytes).list ++ message ∷ [])
+      open_chain =
+          subst (λ (n : ℕ). IsChainFrom first (next + n) ((file_in bytes).list ++ message ∷ []))
+          (ap width (messages j) ∙ wide)
+          (subst (IsChainFrom first (next + width (slot_message slots (slot_in now) j))) open_list open_kept.chain)
+
+    -- ---- that closes the slot of the first message
+
+    module _ (stood : stands_on frame.floor (old j) ≡ true) (number : (old j).head.number ≡ first)
+        (shut : (gate == 90) ≡ false) where
+      close_kept : IsKept (slot_stands frame.floor (slot_in now)) (slot_message slots (slot_in now)) slots
+          (first + width (slot_message slots old j)) next
+      close_kept = closes_kept (slot_stands frame.floor old) (slot_stands frame.floor (slot_in now))
+          (slot_message slots old) (slot_message slots (slot_in now)) slots first next whole.kept j below same_beside
           stood (absent_now shut) number
 
-      with_oldest : (gate == 90) ≡ false →
-          (file_in bytes).list ≡ message_of (old j) ∷ list_below floor (slot_in now) slots
-      with_oldest shut =
+      pub with_oldest : (file_in bytes).list ≡ slot_message slots old j ∷ list_below frame (slot_in now) slots
+      with_oldest =
           listed
-          ∙ closes (slot_stands floor old) (slot_stands floor (slot_in now)) (slot_message old)
-          (slot_message (slot_in now)) slots
-          first next kept j below others stood (absent_now shut) number
+          ∙ closes (slot_stands frame.floor old) (slot_stands frame.floor (slot_in now)) (slot_message slots old)
+          (slot_message slots (slot_in now)) slots first next whole.kept j below same_beside stood (absent_now shut)
+          number
 
-      close_list : (gate == 90) ≡ false → list_below floor (slot_in now) slots ≡ drop 1 (file_in bytes).list
-      close_list shut = sym (ap (λ (list : List Message). drop 1 list) (with_oldest shut))
+      close_list : list_below frame (slot_in now) slots ≡ drop 1 (file_in bytes).list
+      close_list = sym (ap (λ (list : List Message). drop 1 list) with_oldest)
 
-      close_gates : (gate == 90) ≡ false → gates_below (slot_in now) slots ≡ (dropped_in bytes).gates
-      close_gates shut =
-          gates_set j (slot_place j) 0 (gate ∷ []) at_is below short false (old j).head.number (gate_is ∙ shut)
-          (kept.places j below stood)
-          ∙ sym (ap (λ (list : List Message). set (file_in bytes).gates (first_of floor list % slots_in bytes) false)
-          (with_oldest shut))
+      close_gates : gates_below (slot_in now) slots ≡ (dropped_in bytes).gates
+      close_gates =
+          gates_set false (old j).head.number shut (whole.kept.places j below stood)
+          ∙ sym (ap (λ (list : List Message).
+          set (file_in bytes).gates (first_of (file_in bytes).floor.value list % slots_in bytes) false) with_oldest)
 
-      pub close_less : (gate == 90) ≡ false → StandsFor now (dropped_in bytes)
-      close_less shut = stands j (slot_place j) 0 (gate ∷ []) at_is below short
-          (absent_none floor slots j (slot_in now j) (absent_now shut))
-          (first + width (message_of (old j))) next (dropped_in bytes).gates (dropped_in bytes).list (close_kept shut)
-          (close_gates shut) (close_list shut)
+      pub close_less : StandsFor now (dropped_in bytes)
+      close_less =
+          stands_with (absent_none frame j (slot_in now j) (absent_now shut)) (first + width (slot_message slots old j))
+          next (dropped_in bytes).gates (dropped_in bytes).list close_kept (omega (arith, room)) close_gates close_list
 
-      pub close_chain : (gate == 90) ≡ false →
-          IsChainFrom (first + width (message_of (old j))) next (dropped_in bytes).list
-      close_chain shut = subst (IsChainFrom (first + width (message_of (old j))) next) (close_list shut)
-          (close_kept shut).chain
-
-  -- the message of a slot that stands takes one slot
-  pub width_there : (j : ℕ) → j < slots → stands_on floor (old j) ≡ true → width (message_of (old j)) ≡ 1
-  width_there j below stood = good_width slots j (old j) (stands_good floor slots j (old j) (fields j below) stood)
+      pub close_chain : IsChainFrom (first + width (slot_message slots old j)) next (dropped_in bytes).list
+      close_chain = subst (IsChainFrom (first + width (slot_message slots old j)) next) close_list close_kept.chain

@@ -1,10 +1,10 @@
 -- What each call does to the spool on the disk (this profile).
-use Rattle.std.specs.Prelude.{◌≡◌, ◌⊎◌, Bool, true, false, not, ℕ, ◌+◌, ◌*◌, ◌/◌, ◌^◌, ◌%◌, ◌-◌, ◌<◌, ◌≤◌}
-use Rattle.std.specs.Prelude.{List, [], ◌∷◌, ◌++◌, length, drop, set, slice_index, Option, Some, Result, Ok, Err}
-use Rattle.std.specs.Int.{w32, w64, to_be_bytes}
-use Rattle.std.specs.List.{slice_get}
+use Rattle.std.specs.Prelude.{◌≡◌, ◌⊎◌, Bool, true, false, not, ℕ, zero, suc, ◌+◌, ◌*◌, ◌^◌, ◌%◌, ◌-◌, ◌<◌, ◌≤◌}
+use Rattle.std.specs.Prelude.{List, [], ◌∷◌, length, replicate, slice_index, Option, Some, None, Result, Ok}
+use Rattle.std.specs.Prelude.{Err}
+use Rattle.std.specs.List.{All, slice_get}
 use Rattle.std.specs.Option.{option_map}
-use Rattle.disk_base.specs.Calls.{DiskCall, Logs, read_call, sync_call, with_call, write_call}
+use Rattle.disk_base.specs.Calls.{DiskCall, Logs, read_call, sync_call, with_call}
 use Rattle.disk_base.specs.Cut.{image_of}
 use Rattle.disk_base.specs.Faults.{DiskHealth, GoesAsListed, HasCause, IsLeftOut, IsPlanned}
 use Rattle.disk_base.specs.Listed.{AsListed}
@@ -17,19 +17,22 @@ use Rattle.disk_base.specs.declared.disk.Disk as disk
 use Rattle.disk_base.specs.declared.disk.DiskAnswer.{DiskAnswer}
 use Rattle.disk_base.specs.declared.disk.DiskAnswer.TheVariants.{Done, Failed}
 use Rattle.gate_cell.specs.Calls.{LogsPreparing}
-use Rattle.gate_cell.specs.Cell.{Cell, cell_in, gate_byte, with_value}
+use Rattle.gate_cell.specs.Cell.{cell_in, gate_byte, names_second, with_value}
 use Rattle.gate_cell.specs.Holds.{Holds}
 use Rattle.spool_file.specs.Area.{first_of}
-use Rattle.spool_file.specs.File.{Ends, SpoolFile, StandsFor, file_in, is_open_at, slot_message, spool_break}
+use Rattle.spool_file.specs.File.{Ends, SpoolFile, StandsFor, file_in, is_open_at, slots_in, spool_break}
 use Rattle.spool_file.specs.Front.{floor_cell, mark_cell}
 use Rattle.spool_file.specs.Logs.{MakesAll, written_by}
 use Rattle.spool_file.specs.Reading.{IsBreak}
-use Rattle.spool_file.specs.Reads.{HasRead, MakesWhole, recover_calls}
-use Rattle.spool_file.specs.Slot.{Message, slot_in, slot_place}
+use Rattle.spool_file.specs.Reads.{HasRead, MakesWhole, most_reads, recover_calls}
+use Rattle.spool_file.specs.Sizes.{is_too_long, slots_for}
+use Rattle.spool_file.specs.Slot.{Message, head_of, slot_in, slot_message, slot_place, width}
 use Rattle.spool_file.specs.declared.slot.SlotHead.{SlotHead}
-use Rattle.spool_slots.specs.Losses.{IsSure, Leaves, LeavesByGate, LeavesByte, closes, file_left, gate_counts}
-use Rattle.spool_slots.specs.Losses.{names_spare, opens}
-use Rattle.spool_slots.specs.Spool.{Rests, SpoolView, first_slot, in_hand, known_of, next_slot}
+use Rattle.spool_slots.specs.Calls.{drop_calls, shut_calls, stage_calls, upgrade_calls}
+use Rattle.spool_slots.specs.Files.{cleared_in, dropped_in, reserved_in, sealed_in, shut_in, upgraded_in, with_gates}
+use Rattle.spool_slots.specs.Losses.{IsSure, Leaves, LeavesByGate, LeavesGates, closes, file_left, gate_counts}
+use Rattle.spool_slots.specs.Losses.{names_spare, opens, shut_marks}
+use Rattle.spool_slots.specs.Spool.{Rests, SpoolView, StagedView, first_slot, in_hand, known_of, next_slot}
 use Rattle.spool_slots.specs.declared.states.Dropping.{Dropping}
 use Rattle.spool_slots.specs.declared.states.Dropping.TheVariants as dropping
 use Rattle.spool_slots.specs.declared.states.OldestAnswer.{OldestAnswer}
@@ -41,73 +44,6 @@ use Rattle.spool_slots.specs.declared.states.Reserving.TheVariants as reserving
 use Rattle.spool_slots.specs.declared.states.Spent.{Spent}
 use Rattle.spool_slots.specs.declared.states.Staging.{Staging}
 use Rattle.spool_slots.specs.declared.states.Staging.TheVariants as staging
-
--- the bytes of a slot's parts, which stand behind its gate
-abbrev pub parts_of : ℕ → ℕ → ℕ → List ℕ → List ℕ
-parts_of number stream function body =
-    to_be_bytes w64 number ++ ((128 + stream) ∷ []) ++ (function ∷ []) ++ to_be_bytes w32 (length body) ++ body
-
--- a file with the gate of a number's slot shut
-abbrev pub with_shut : ℕ → SpoolFile → SpoolFile
-with_shut number file = record {
-  slots = file.slots;
-  gates = set file.gates (number % file.slots) false;
-  mark = file.mark;
-  floor = file.floor;
-  list = file.list;
-}
-
--- with a message more at its end, whose slot is open then
-abbrev pub with_message : Message → SpoolFile → SpoolFile
-with_message message file = record {
-  slots = file.slots;
-  gates = set file.gates (message.number % file.slots) true;
-  mark = file.mark;
-  floor = file.floor;
-  list = file.list ++ message ∷ [];
-}
-
--- without its first message, whose slot is closed then
-abbrev pub without_first : SpoolFile → SpoolFile
-without_first file = record {
-  slots = file.slots;
-  gates = set file.gates (first_of file.floor.value file.list % file.slots) false;
-  mark = file.mark;
-  floor = file.floor;
-  list = drop 1 file.list;
-}
-
--- with its floor moved up to a number behind all its messages, none of which stands then
-abbrev pub with_floor_moved : ℕ → SpoolFile → SpoolFile
-with_floor_moved next file = record {
-  slots = file.slots;
-  gates = file.gates;
-  mark = file.mark;
-  floor = with_value next file.floor;
-  list = [];
-}
-
--- with another mark, and with its mark moved on
-abbrev pub with_mark : Cell → SpoolFile → SpoolFile
-with_mark mark file = record {
-  slots = file.slots;
-  gates = file.gates;
-  mark = mark;
-  floor = file.floor;
-  list = file.list;
-}
-
-abbrev pub with_mark_moved : SpoolFile → SpoolFile
-with_mark_moved file = with_mark (with_value (file.mark.value + 4096) file.mark) file
-
-abbrev pub reserved_in : List ℕ → SpoolFile
-reserved_in bytes = with_mark_moved (file_in bytes)
-
-abbrev pub cleared_in : ℕ → List ℕ → SpoolFile
-cleared_in next bytes = with_floor_moved next (file_in bytes)
-
-abbrev pub shut_in : ℕ → List ℕ → SpoolFile
-shut_in number bytes = with_shut number (file_in bytes)
 
 -- where the disk told its bytes before, it does so now, and at every moment between a crash leaves bytes with P of what
 -- was there before
@@ -123,12 +59,9 @@ IsSame bytes image = StandsFor image (file_in bytes)
 abbrev pub IsSameOr : (List ℕ → SpoolFile) → List ℕ → List ℕ → Type 0
 IsSameOr changed bytes image = StandsFor image (file_in bytes) ⊎ StandsFor image (changed bytes)
 
--- the file with the message that stands in a slot
-abbrev pub sealed_in : ℕ → List ℕ → SpoolFile
-sealed_in k bytes = with_message (slot_message (slot_in bytes) k) (file_in bytes)
-
-abbrev pub dropped_in : List ℕ → SpoolFile
-dropped_in bytes = without_first (file_in bytes)
+-- or for the same file with other gates open
+abbrev pub IsSameBar : List ℕ → List ℕ → Type 0
+IsSameBar bytes image = (gates : List Bool) × StandsFor image (with_gates gates (file_in bytes))
 
 -- a write and its sync were made, as far as they went, and the rest of the disk is as it was
 pub record HasSettled {D : Type 0} (members : disk.Ghosts D) (old new : D) (at : ℕ) (bytes : List ℕ)
@@ -163,11 +96,7 @@ pub record HasNoSync {D : Type 0} (members : disk.Ghosts D) (old new : D) : Type
   pub calls : Logs sync_call (IsLeftOut (members.health old) (members.health new) 0 0) (members.calls old)
       (members.calls new) Failed
 
--- how many reads tell that a file of this size stands for no list, at most
-abbrev pub most_reads : ℕ → ℕ
-most_reads size = 2 * (size / 4096) + 1
-
--- the calls of a recovery are exactly these where the disk tells a file that stands
+-- the calls of a recovery are exactly these where the disk tells a file that stands, by its version
 abbrev pub RecoversBy : {D : Type 0} → disk.Ghosts D → (old new : D) → DiskAnswer → Type 0
 RecoversBy members old new answer =
     MakesWhole recover_calls (members.told old) (members.health old) (members.health new) (members.calls old)
@@ -176,110 +105,96 @@ RecoversBy members old new answer =
 -- the list that stands is in hand; or the first break; or the disk failed
 abbrev pub Recovers : {D : Type 0} → disk.Ghosts D → D → Result (SpoolView D) (Recovering D) → Type 0
 Recovers members old (Ok v) =
-    HasRecovered members old v.disk (2 * v.slots + 1) Done
+    HasRecovered members old v.disk (3 * v.slots + 1) Done
     × ((s : Story) → members.told old ≡ Some s → Rests (with_sync s) (known_of v)
     × (v.first ≡ first_of (file_in s.now.bytes).floor.value (file_in s.now.bytes).list))
     × RecoversBy members old v.disk Done
 Recovers members old (Err (recovering.NotSpool raw break)) =
-    HasRecovered members old raw.disk (most_reads (members.size_is old)) Done
+    HasRecovered members old raw.disk (most_reads (members.told old) (members.size_is old)) Done
     × ((s : Story) → members.told old ≡ Some s → IsBreak s.now.bytes (spool_break s.now.bytes) break)
 Recovers members old (Err (recovering.Failed spent)) =
-    (HasNoSync members old spent.disk ⊎ HasRecovered members old spent.disk (most_reads (members.size_is old)) Failed)
+    (HasNoSync members old spent.disk
+    ⊎ HasRecovered members old spent.disk (most_reads (members.told old) (members.size_is old)) Failed)
     × RecoversBy members old spent.disk Failed
 
--- the calls that write the parts of a message into the slot at a place: a look at its gate, which is closed first where
--- it is stale, and then a write and a sync
-abbrev pub shut_calls : Bool → ℕ → List DiskCall
-shut_calls false at = read_call at 1 Done ∷ []
-shut_calls true at = read_call at 1 Done ∷ write_call at (0 ∷ []) Done ∷ sync_call Done ∷ []
-
-abbrev pub parts_calls : ℕ → List ℕ → List DiskCall
-parts_calls at parts = write_call (at + 1) parts Done ∷ sync_call Done ∷ []
-
-abbrev pub stage_calls : Bool → ℕ → List ℕ → List DiskCall
-stage_calls stale at parts = shut_calls stale at ++ parts_calls at parts
-
--- what a look at the gate at a place leaves, where it was open or wasn't
-abbrev pub Shuts : Bool → ℕ → Option Story → Option Story → DiskAnswer → Type 0
-Shuts false at before after answer = after ≡ before
-Shuts true at before after answer = Settles before at (0 ∷ []) after answer
-
--- the gate at a place was looked at, and closed where it was open, as far as that went
-pub record HasShut {D : Type 0} (members : disk.Ghosts D) (old new : D) (at : ℕ) (answer : DiskAnswer) : Type 0 where
-  pub stale : Bool
-  pub stale_is : (s : Story) → members.told old ≡ Some s → stale ≡ opens (slice_index s.now.bytes at)
-  pub told : Shuts stale at (members.told old) (members.told new) answer
+-- some calls were made, as far as they went, and the size of the disk is as it was
+pub record HasMade {D : Type 0} (members : disk.Ghosts D) (old new : D) (row : List DiskCall) (answer : DiskAnswer) :
+    Type 0 where
   pub size : members.size_is new ≡ members.size_is old
-  pub calls : MakesAll (members.health old) (members.health new) (members.calls old) (members.calls new)
-      (shut_calls stale at) answer
+  pub calls : MakesAll (members.health old) (members.health new) (members.calls old) (members.calls new) row answer
   pub listed : GoesAsListed (members.health old) →
       AsListed (members.told old) (members.calls old) (members.told new) (members.calls new)
   pub same_disk : IsSameDisk members old new
 
--- where it failed at the look nothing was written, and elsewhere the 00 was
-pub record HasLostShut {D : Type 0} (members : disk.Ghosts D) (old new : D) (at : ℕ) : Type 0 where
-  pub early : IsPlanned (members.health old) 1 → members.told new ≡ members.told old
-  pub late : IsSure (members.health old) (members.health new) 3 1 →
-      ((s : Story) → members.told old ≡ Some s → s.now.loose ≡ []) → (IsPlanned (members.health old) 1 → ⊥) → LeavesByte (members.told old) (members.told new) at 0
+-- a message has room in the spool, and numbers below 2^63
+pub record HasRoomFor {D : Type 0} (v : SpoolView D) (long : ℕ) : Type 0 where
+  pub from : v.first ≤ v.next
+  pub short : is_too_long v.version v.slots long ≡ false
+  pub free : v.next + slots_for long ≤ v.first + v.slots
+  pub number : v.next + slots_for long ≤ 2 ^ 63
 
-abbrev pub LosesShut : {D : Type 0} → disk.Ghosts D → D → D → ℕ → DiskAnswer → Type 0
-LosesShut members old new at Done = Unit {0}
-LosesShut members old new at Failed = HasLostShut members old new at
+-- of the slots of n numbers in a row, from a number on, which are open
+abbrev pub open_gates : (number n : ℕ) → SpoolFile → List Bool
+open_gates number zero file = []
+open_gates number (suc n) file = is_open_at number file ∷ open_gates (number + 1) n file
 
--- the parts of the next message were written, and at every moment the old list stands; a stale gate is closed on the
--- way
+-- the pieces of the next message were written, and at every moment the old list stands; gates of its slots that are
+-- open still are closed on the way
 pub record HasStaged {D : Type 0} (members : disk.Ghosts D) (v : SpoolView D) (stream function : ℕ) (body : List ℕ)
     (after : D) (answer : DiskAnswer) : Type 0 where
-  pub short : length body ≤ 4081
-  pub free : v.len < v.slots
-  pub number : v.next < 2 ^ 63
-  -- whether the next slot's gate was stale, also where the disk tells nothing
-  pub stale : Bool
-  pub stale_is : (s : Story) → members.told v.disk ≡ Some s → stale ≡ is_open_at v.next (file_in s.now.bytes)
-  pub images : HoldsThrough (members.told v.disk) (members.told after) (IsSameOr (shut_in v.next))
-  pub size : members.size_is after ≡ members.size_is v.disk
-  pub calls : MakesAll (members.health v.disk) (members.health after) (members.calls v.disk) (members.calls after)
-      (stage_calls stale (slot_place (next_slot v)) (parts_of v.next stream function body)) answer
-  pub listed : GoesAsListed (members.health v.disk) →
-      AsListed (members.told v.disk) (members.calls v.disk) (members.told after) (members.calls after)
-  pub same_disk : IsSameDisk members v.disk after
+  pub room : HasRoomFor v (length body)
+  -- which of the gates were open, also where the disk tells nothing
+  pub stale : List Bool
+  pub long : length stale ≡ slots_for (length body)
+  pub stale_is : (s : Story) → members.told v.disk ≡ Some s →
+      stale ≡ open_gates v.next (slots_for (length body)) (file_in s.now.bytes)
+  pub images : HoldsThrough (members.told v.disk) (members.told after) IsSameBar
+  pub made : HasMade members v.disk after (stage_calls v.slots v.next stale stream function body) answer
 
--- what a loss leaves of so many calls that write n bytes, by the one that was to fail: the look at the gate changes
--- nothing, a 00 there or its sync closes the gate as its byte says, and behind these looks it is closed
-pub record HasLostStage {D : Type 0} (members : disk.Ghosts D) (v : SpoolView D) (after : D) (looks calls n : ℕ) :
-    Type 0 where
-  pub early : IsPlanned (members.health v.disk) 1 → HoldsThrough (members.told v.disk) (members.told after) IsSame
-  pub shutting : IsSure (members.health v.disk) (members.health after) looks 1 →
-      (IsPlanned (members.health v.disk) 1 → ⊥) → IsPlanned (members.health v.disk) looks →
-      LeavesByGate (members.told v.disk) (members.told after) closes (shut_in v.next)
-  pub late : IsSure (members.health v.disk) (members.health after) calls n →
-      (IsPlanned (members.health v.disk) looks → ⊥) → Leaves (members.told v.disk) (members.told after) (shut_in v.next)
+-- what a loss leaves of a put's calls up to its last gate, by the one that was to fail: the looks at the gates change
+-- nothing, each 00 and the sync behind them leave the gates so far as their bytes say, and behind these all are closed
+pub record HasLostStage {D : Type 0} (members : disk.Ghosts D) (v : SpoolView D) (after : D) (stale : List Bool)
+    (calls : List DiskCall) : Type 0 where
+  pub early : IsPlanned (members.health v.disk) (length stale) →
+      HoldsThrough (members.told v.disk) (members.told after) IsSame
+  pub shutting : (m : ℕ) → length stale + m ≤ length (shut_calls v.slots v.next stale) →
+      IsSure (members.health v.disk) (members.health after) (length calls) (written_by calls) →
+      IsPlanned (members.health v.disk) (length stale + m) →
+      (IsPlanned (members.health v.disk) (length stale + (m - 1)) → ⊥) →
+      LeavesGates (members.told v.disk) (members.told after)
+      (shut_marks v.slots v.next stale m (replicate v.slots false))
+  pub late : IsSure (members.health v.disk) (members.health after) (length calls) (written_by calls) →
+      (IsPlanned (members.health v.disk) (length (shut_calls v.slots v.next stale)) → ⊥) →
+      Leaves (members.told v.disk) (members.told after) (shut_in v.next (length stale))
 
 abbrev pub LosesStage : {D : Type 0} → disk.Ghosts D → SpoolView D → ℕ → ℕ → List ℕ → D → Type 0
 LosesStage members v stream function body after =
     (s : Story) → members.told v.disk ≡ Some s →
-    let stale = is_open_at v.next (file_in s.now.bytes) in
-    let calls = stage_calls stale (slot_place (next_slot v)) (parts_of v.next stream function body) in
-    HasLostStage members v after (length (shut_calls stale (slot_place (next_slot v)))) (length calls)
-    (written_by calls)
+    let stale = open_gates v.next (slots_for (length body)) (file_in s.now.bytes) in
+    HasLostStage members v after stale (stage_calls v.slots v.next stale stream function body)
 
 -- the message that was staged
 abbrev pub IsNext : {D : Type 0} → disk.Ghosts D → SpoolView D → Message → Type 0
 IsNext members w message =
-    (t : Story) → members.told w.disk ≡ Some t → slot_message (slot_in t.now.bytes) (next_slot w) ≡ message
+    (t : Story) → members.told w.disk ≡ Some t →
+    slot_message (slots_in t.now.bytes) (slot_in t.now.bytes) (next_slot w) ≡ message
 
-abbrev pub Stages : {D : Type 0} → disk.Ghosts D → SpoolView D → ℕ → ℕ → List ℕ → Result (SpoolView D) (Staging D) →
+abbrev pub Stages : {D : Type 0} → disk.Ghosts D → SpoolView D → ℕ → ℕ → List ℕ → Result (StagedView D) (Staging D) →
     Type 0
 Stages members v stream function body (Ok w) =
-    HasStaged members v stream function body w.disk Done
-    × (w ≡ in_hand w.disk (known_of v))
-    × ((s t : Story) → members.told v.disk ≡ Some s → members.told w.disk ≡ Some t →
-    Ends t (shut_in v.next s.now.bytes))
-    × IsNext members w (record { number = v.next; stream = stream; function = function; body = body })
-Stages members v stream function body (Err (staging.TooLong w)) = (w ≡ v) × (4081 < length body)
-Stages members v stream function body (Err (staging.Full w)) = (w ≡ v) × (length body ≤ 4081) × (v.len ≡ v.slots)
+    HasStaged members v stream function body w.spool.disk Done
+    × (w ≡ record { spool = in_hand w.spool.disk (known_of v); size = slots_for (length body) })
+    × ((s t : Story) → members.told v.disk ≡ Some s → members.told w.spool.disk ≡ Some t →
+    Ends t (shut_in v.next (slots_for (length body)) s.now.bytes))
+    × IsNext members w.spool (record { number = v.next; stream = stream; function = function; body = body })
+Stages members v stream function body (Err (staging.TooLong w)) =
+    (w ≡ v) × (is_too_long v.version v.slots (length body) ≡ true)
+Stages members v stream function body (Err (staging.Full w)) =
+    (w ≡ v) × (is_too_long v.version v.slots (length body) ≡ false)
+    × (v.first + v.slots < v.next + slots_for (length body))
 Stages members v stream function body (Err (staging.NumbersSpent w)) =
-    (w ≡ v) × (length body ≤ 4081) × (v.len < v.slots) × (2 ^ 63 ≤ v.next)
+    (w ≡ v) × (is_too_long v.version v.slots (length body) ≡ false)
+    × (v.next + slots_for (length body) ≤ v.first + v.slots) × (2 ^ 63 < v.next + slots_for (length body))
 Stages members v stream function body (Err (staging.Failed spent)) =
     HasStaged members v stream function body spent.disk Failed
     × LosesStage members v stream function body spent.disk
@@ -290,64 +205,152 @@ pub record HasSealed {D : Type 0} (members : disk.Ghosts D) (v : SpoolView D) (a
   pub images : HoldsThrough (members.told v.disk) (members.told after) (IsSameOr (sealed_in (next_slot v)))
   pub disk : HasSettled members v.disk after (slot_place (next_slot v)) (90 ∷ []) answer
 
-abbrev pub Seals : {D : Type 0} → disk.Ghosts D → SpoolView D → Result (SpoolView D) (Spent D) → Type 0
+abbrev pub Seals : {D : Type 0} → disk.Ghosts D → StagedView D → Result (SpoolView D) (Spent D) → Type 0
 Seals members v (Ok w) =
-    HasSealed members v w.disk Done
-    × (w ≡ in_hand w.disk (record (known_of v) { next = v.next + 1; len = v.len + 1 }))
-    × ((s t : Story) → members.told v.disk ≡ Some s → members.told w.disk ≡ Some t →
-    Ends t (sealed_in (next_slot v) s.now.bytes))
+    HasSealed members v.spool w.disk Done
+    × (w ≡ in_hand w.disk (record (known_of v.spool) { next = v.spool.next + v.size; len = v.spool.len + 1 }))
+    × ((s t : Story) → members.told v.spool.disk ≡ Some s → members.told w.disk ≡ Some t →
+    Ends t (sealed_in (next_slot v.spool) s.now.bytes))
 Seals members v (Err spent) =
-    HasSealed members v spent.disk Failed
-    × (IsSure (members.health v.disk) (members.health spent.disk) 2 1 →
-    LeavesByGate (members.told v.disk) (members.told spent.disk) opens (sealed_in (next_slot v)))
+    HasSealed members v.spool spent.disk Failed
+    × (IsSure (members.health v.spool.disk) (members.health spent.disk) 2 1 →
+    LeavesByGate (members.told v.spool.disk) (members.told spent.disk) opens (sealed_in (next_slot v.spool)))
 
--- the gate of the oldest message's slot was closed; each message takes one number
+-- the length of the oldest message was read, and the gate of its first slot was closed
 pub record HasDropped {D : Type 0} (members : disk.Ghosts D) (v : SpoolView D) (after : D) (answer : DiskAnswer) :
     Type 0 where
   pub some : 0 < v.len
-  pub even : v.next ≡ v.first + v.len
   pub images : HoldsThrough (members.told v.disk) (members.told after) (IsSameOr dropped_in)
-  pub disk : HasSettled members v.disk after (slot_place (first_slot v)) (0 ∷ []) answer
+  pub made : HasMade members v.disk after (drop_calls (slot_place (first_slot v))) answer
+
+-- where the read was to fail, a crash leaves the file as it was; elsewhere the gate decides
+pub record HasLostDrop {D : Type 0} (members : disk.Ghosts D) (v : SpoolView D) (after : D) : Type 0 where
+  pub early : IsPlanned (members.health v.disk) 1 → HoldsThrough (members.told v.disk) (members.told after) IsSame
+  pub late : IsSure (members.health v.disk) (members.health after) 3 1 → (IsPlanned (members.health v.disk) 1 → ⊥) →
+      LeavesByGate (members.told v.disk) (members.told after) closes dropped_in
+
+-- the oldest message takes so many slots; a disk that tells nothing can't leave less than one of each other message
+pub record IsFirstSize {D : Type 0} (members : disk.Ghosts D) (v : SpoolView D) (size : ℕ) : Type 0 where
+  pub some : 1 ≤ size
+  pub is : (s : Story) → members.told v.disk ≡ Some s → (m : Message) →
+      slice_get (file_in s.now.bytes).list 0 ≡ Some m → size ≡ width m
+  pub within : v.first + size + (v.len - 1) ≤ v.next
+  pub last : v.len ≡ 1 → v.first + size ≡ v.next
 
 abbrev pub Drops : {D : Type 0} → disk.Ghosts D → SpoolView D → Result (SpoolView D) (Dropping D) → Type 0
 Drops members v (Ok w) =
     HasDropped members v w.disk Done
-    × (w ≡ in_hand w.disk (record (known_of v) { first = v.first + 1; len = v.len - 1 }))
+    × ((size : ℕ) × IsFirstSize members v size
+    × (w ≡ in_hand w.disk (record (known_of v) { first = v.first + size; len = v.len - 1 })))
     × ((s t : Story) → members.told v.disk ≡ Some s → members.told w.disk ≡ Some t → Ends t (dropped_in s.now.bytes))
 Drops members v (Err (dropping.Empty w)) = (w ≡ v) × (v.len ≡ 0)
 Drops members v (Err (dropping.Failed spent)) =
-    HasDropped members v spent.disk Failed
-    × (IsSure (members.health v.disk) (members.health spent.disk) 2 1 →
-    LeavesByGate (members.told v.disk) (members.told spent.disk) closes dropped_in)
+    HasDropped members v spent.disk Failed × HasLostDrop members v spent.disk
 
--- one slot was read, and the rest is as it was; each message takes one number
+-- and by a size that is told
+abbrev pub DropsSized : {D : Type 0} → disk.Ghosts D → SpoolView D → (size : ℕ) → Result (SpoolView D) (Dropping D) →
+    Type 0
+DropsSized members v size (Ok w) =
+    HasDropped members v w.disk Done
+    × (w ≡ in_hand w.disk (record (known_of v) { first = v.first + size; len = v.len - 1 }))
+    × ((s t : Story) → members.told v.disk ≡ Some s → members.told w.disk ≡ Some t → Ends t (dropped_in s.now.bytes))
+DropsSized members v size (Err (dropping.Empty w)) = (w ≡ v) × (v.len ≡ 0)
+DropsSized members v size (Err (dropping.Failed spent)) =
+    HasDropped members v spent.disk Failed × HasLostDrop members v spent.disk
+
+-- one slot was read, and the rest is as it was
 pub record HasLooked {D : Type 0} (members : disk.Ghosts D) (v w : SpoolView D) (k : ℕ) (answer : DiskAnswer) :
     Type 0 where
-  pub even : v.next ≡ v.first + v.len
   pub same : w ≡ in_hand w.disk (known_of v)
   pub told : members.told w.disk ≡ members.told v.disk
-  pub size : members.size_is w.disk ≡ members.size_is v.disk
-  pub calls : Logs (read_call (slot_place k) 4096) (IsLeftOut (members.health v.disk) (members.health w.disk) 0 0)
-      (members.calls v.disk) (members.calls w.disk) answer
-  pub cause : HasCause (members.health v.disk) (members.health w.disk) 1 0 ⊥ answer
-  pub same_disk : IsSameDisk members v.disk w.disk
+  pub made : HasMade members v.disk w.disk (read_call (slot_place k) 4096 Done ∷ []) answer
 
--- the message of a number, with its slot's bytes
-pub record IsFound (s : Story) (slots first number : ℕ) (into : List ℕ) (head : SlotHead) : Type 0 where
-  pub bytes : into ≡ bytes_at s.now.bytes (slot_place (number % slots)) 4096
-  pub head_is : head ≡ (slot_in s.now.bytes (number % slots)).head
-  pub listed : slice_get (file_in s.now.bytes).list (number - first)
-      ≡ Some (slot_message (slot_in s.now.bytes) (number % slots))
+-- the buffer has a slot's bytes
+abbrev pub HasSlot : {D : Type 0} → disk.Ghosts D → SpoolView D → (k : ℕ) → List ℕ → Type 0
+HasSlot members v k into =
+    (s : Story) → members.told v.disk ≡ Some s → into ≡ bytes_at s.now.bytes (slot_place k) 4096
 
-abbrev pub Looks : {D : Type 0} → disk.Ghosts D → SpoolView D → SpoolView D → ℕ → List ℕ → List ℕ → OldestAnswer →
+-- a head is that of a message of the list
+pub record IsListed (s : Story) (head : SlotHead) : Type 0 where
+  pub place : ℕ
+  pub listed : slice_get (file_in s.now.bytes).list place
+      ≡ Some (slot_message (slots_in s.now.bytes) (slot_in s.now.bytes) (head.number % slots_in s.now.bytes))
+  pub head_is : head ≡ (slot_in s.now.bytes (head.number % slots_in s.now.bytes)).head
+
+-- the first slot of a message was read, and this is its head
+pub record IsFound {D : Type 0} (members : disk.Ghosts D) (v : SpoolView D) (number : ℕ) (into : List ℕ)
+    (head : SlotHead) : Type 0 where
+  pub slot : HasSlot members v (number % v.slots) into
+  pub head_in : head ≡ head_of (bytes_at into 1 14)
+  pub listed : (s : Story) → members.told v.disk ≡ Some s → (head.number ≡ number) × IsListed s head
+
+-- no message of the list has this number
+abbrev pub IsMissed : {D : Type 0} → disk.Ghosts D → SpoolView D → (number : ℕ) → Type 0
+IsMissed members v number =
+    (s : Story) → members.told v.disk ≡ Some s →
+    All (λ m. m.number ≡ number → ⊥) (file_in s.now.bytes).list
+
+-- the oldest message was looked for
+abbrev pub LooksFirst : {D : Type 0} → disk.Ghosts D → SpoolView D → SpoolView D → List ℕ → List ℕ → OldestAnswer →
     Type 0
+LooksFirst members v w before into (oldest.Found head) =
+    HasLooked members v w (first_slot v) Done × (0 < v.len) × IsFound members v v.first into head
+LooksFirst members v w before into oldest.Empty = (w ≡ v) × (into ≡ before) × (v.len ≡ 0)
+LooksFirst members v w before into oldest.Failed = HasLooked members v w (first_slot v) Failed × (0 < v.len)
+
+-- a number lies among those that the messages take
+abbrev pub IsInReach : {D : Type 0} → SpoolView D → (number : ℕ) → Type 0
+IsInReach v number = (v.first ≤ number) × (number < v.next)
+
+-- the bytes of a slot are those of an open one with this number
+abbrev pub HasHead : (number : ℕ) → List ℕ → Type 0
+HasHead number into = (slice_index into 0 ≡ 90) × ((head_of (bytes_at into 1 14)).number ≡ number)
+
+-- so there is a head, or there isn't
+abbrev pub FoundIn : (number : ℕ) → List ℕ → Option SlotHead → Type 0
+FoundIn number into (Some head) = (head ≡ head_of (bytes_at into 1 14)) × HasHead number into
+FoundIn number into None = HasHead number into → ⊥
+
+-- the message of a number was looked for: it is there exactly where its slot says so; a number in reach that no
+-- message has is within one
+abbrev pub Looks : {D : Type 0} → disk.Ghosts D → SpoolView D → SpoolView D → (number : ℕ) → List ℕ → List ℕ →
+    OldestAnswer → Type 0
 Looks members v w number before into (oldest.Found head) =
-    HasLooked members v w (number % v.slots) Done × (v.first ≤ number) × (number < v.next)
-    × ((s : Story) → members.told v.disk ≡ Some s → IsFound s v.slots v.first number into head)
+    HasLooked members v w (number % v.slots) Done × IsInReach v number × IsFound members v number into head
+    × HasHead number into
 Looks members v w number before into oldest.Empty =
-    (w ≡ v) × (into ≡ before) × ((number < v.first) ⊎ (v.next ≤ number))
+    IsMissed members v number
+    × (((w ≡ v) × (into ≡ before) × ((number < v.first) ⊎ (v.next ≤ number)))
+    ⊎ (HasLooked members v w (number % v.slots) Done × IsInReach v number × HasSlot members v (number % v.slots) into
+    × (HasHead number into → ⊥)))
 Looks members v w number before into oldest.Failed =
-    HasLooked members v w (number % v.slots) Failed × (v.first ≤ number) × (number < v.next)
+    HasLooked members v w (number % v.slots) Failed × IsInReach v number
+
+-- a further slot of a message was read
+abbrev pub LooksOn : {D : Type 0} → disk.Ghosts D → SpoolView D → SpoolView D → (number : ℕ) → List ℕ → DiskAnswer →
+    Type 0
+LooksOn members v w number into Done =
+    HasLooked members v w (number % v.slots) Done × HasSlot members v (number % v.slots) into
+LooksOn members v w number into Failed = HasLooked members v w (number % v.slots) Failed
+
+-- the gate of the version was made odd, and then the name was written
+pub record HasUpgraded {D : Type 0} (members : disk.Ghosts D) (v : SpoolView D) (after : D) (answer : DiskAnswer) :
+    Type 0 where
+  pub images : HoldsThrough (members.told v.disk) (members.told after) (IsSameOr upgraded_in)
+  pub made : HasMade members v.disk after upgrade_calls answer
+
+-- where the gate's write or its sync was to fail, the gate decides; behind these the file has version 2
+pub record HasLostUpgrade {D : Type 0} (members : disk.Ghosts D) (v : SpoolView D) (after : D) : Type 0 where
+  pub early : IsSure (members.health v.disk) (members.health after) 4 2 → IsPlanned (members.health v.disk) 2 →
+      LeavesByGate (members.told v.disk) (members.told after) names_second upgraded_in
+  pub late : IsSure (members.health v.disk) (members.health after) 4 2 →
+      (IsPlanned (members.health v.disk) 2 → ⊥) → Leaves (members.told v.disk) (members.told after) upgraded_in
+
+abbrev pub Upgrades : {D : Type 0} → disk.Ghosts D → SpoolView D → Result (SpoolView D) (Spent D) → Type 0
+Upgrades members v (Ok w) =
+    HasUpgraded members v w.disk Done × (w ≡ in_hand w.disk (record (known_of v) { version = 2 }))
+    × ((s t : Story) → members.told v.disk ≡ Some s → members.told w.disk ≡ Some t → Ends t (upgraded_in s.now.bytes))
+Upgrades members v (Err spent) = HasUpgraded members v spent.disk Failed × HasLostUpgrade members v spent.disk
 
 -- a value was prepared for the cell at a place, and then the cell's gate was written that names its copy, as far as
 -- that went
@@ -422,6 +425,7 @@ MovesFloor members v after answer =
 -- a spool that was empty is as it was; of any other one all messages are gone at once, or that failed
 abbrev pub Clears : {D : Type 0} → disk.Ghosts D → SpoolView D → Result (SpoolView D) (Spent D) → Type 0
 Clears members v (Ok w) =
-    ((v.len ≡ 0) × (w ≡ v) × ((s : Story) → members.told v.disk ≡ Some s → (file_in s.now.bytes).list ≡ []))
+    ((v.len ≡ 0) × (v.first ≡ v.next) × (w ≡ v)
+    × ((s : Story) → members.told v.disk ≡ Some s → (file_in s.now.bytes).list ≡ []))
     ⊎ (MovesFloor members v w.disk Done × (w ≡ in_hand w.disk (record (known_of v) { first = v.next; len = 0 })))
 Clears members v (Err spent) = MovesFloor members v spent.disk Failed

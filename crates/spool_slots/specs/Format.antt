@@ -27,7 +27,7 @@ pub record HasFormatted {D : Type 0} (members : disk.Ghosts D) (old new : D) (sl
 abbrev pub Formats : {D : Type 0} → disk.Ghosts D → D → ℕ → Result (SpoolView D) (Formatting D) → Type 0
 Formats members old slots (Ok v) =
     HasFormatted members old v.disk slots Done
-    × (v ≡ record { disk = v.disk; slots = slots; first = 0; next = 0; len = 0; mark = 0 })
+    × (v ≡ record { disk = v.disk; version = 2; slots = slots; first = 0; next = 0; len = 0; mark = 0 })
     × ((t : Story) → members.told v.disk ≡ Some t → Ends t (empty_file slots))
 Formats members old slots (Err (formatting.Slots raw)) = (raw.disk ≡ old) × ((slots ≡ 0) ⊎ (65535 < slots))
 Formats members old slots (Err (formatting.Small raw size need)) =

@@ -1,4 +1,10 @@
+pub mod Calls
+pub mod Carried
 pub mod Changes
+pub mod Files
+pub mod Fitting
 pub mod Format
 pub mod Losses
+pub mod Put
 pub mod Spool
+pub mod Work

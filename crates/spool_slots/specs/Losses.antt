@@ -1,7 +1,7 @@
 -- What a power loss leaves of a work that it interrupts (this profile).
-use Rattle.std.specs.Prelude.{◌≡◌, ◌==◌, ℕ, ◌<◌, ◌≤◌, Bool, true, false, not, if◌then◌else◌, List, [], ◌∷◌, slice_index}
-use Rattle.std.specs.Prelude.{Option, Some}
-use Rattle.disk_base.specs.Cut.{chosen_byte, image_of}
+use Rattle.std.specs.Prelude.{◌≡◌, ◌==◌, ℕ, zero, suc, ◌+◌, ◌%◌, ◌<◌, ◌≤◌, Bool, true, false, not, if◌then◌else◌}
+use Rattle.std.specs.Prelude.{List, [], ◌∷◌, set, slice_index, Option, Some}
+use Rattle.disk_base.specs.Cut.{chosen_byte, image_of, next_choice}
 use Rattle.disk_base.specs.Faults.{DiskHealth, GoesAsListed, IsLeftOut, IsPlanned}
 use Rattle.disk_base.specs.Story.{Story, with_part}
 use Rattle.disk_base.specs.Through.{EachImage, GoesThrough}
@@ -10,6 +10,7 @@ use Rattle.disk_base.specs.declared.cut.CutChoice.TheVariants.{Old, New, Fill, F
 use Rattle.gate_cell.specs.Cell.{Cell, cell_in, names_second, with_value}
 use Rattle.gate_cell.specs.Holds.{Holds}
 use Rattle.spool_file.specs.File.{SpoolFile, StandsFor, file_in}
+use Rattle.spool_slots.specs.Files.{with_gates}
 
 -- a disk went on, each call comes to what its entry says, and none of so many that write n bytes was left out
 pub record IsSure (before now : DiskHealth) (calls n : ℕ) : Type 0 where
@@ -50,6 +51,31 @@ abbrev pub LeavesByGate : Option Story → Option Story → (ℕ → Bool) → (
 LeavesByGate before after means changed =
     (s t : Story) → before ≡ Some s → after ≡ Some t → (choice : CutChoice) →
     StandsFor (image_of choice t) (file_left (gate_counts choice means) (changed s.now.bytes) (file_in s.now.bytes))
+
+-- marks of the slots of the first m gates that are open, of those of slots in a row, from that of a number on
+abbrev pub shut_marks : (slots number : ℕ) → List Bool → (m : ℕ) → List Bool → List Bool
+shut_marks slots number [] m marks = marks
+shut_marks slots number (false ∷ open_gates) m marks = shut_marks slots (number + 1) open_gates m marks
+shut_marks slots number (true ∷ open_gates) zero marks = marks
+shut_marks slots number (true ∷ open_gates) (suc m) marks =
+    shut_marks slots (number + 1) open_gates m (set marks (number % slots) true)
+
+-- what a cut leaves of gates of which the marked ones were open and have been written as 00, in the order of their
+-- places
+abbrev pub gates_left : CutChoice → List Bool → List Bool → List Bool
+gates_left choice [] gates = []
+gates_left choice (mark ∷ marks) [] = []
+gates_left choice (true ∷ marks) (gate ∷ gates) =
+    opens (chosen_byte choice 90 0) ∷ gates_left (next_choice choice) marks gates
+gates_left choice (false ∷ marks) (gate ∷ gates) = gate ∷ gates_left choice marks gates
+
+-- of the writes of some first 00s that the disk stopped at, or at their sync, a crash leaves the file with the gates of
+-- its choice
+abbrev pub LeavesGates : Option Story → Option Story → List Bool → Type 0
+LeavesGates before after marks =
+    (s t : Story) → before ≡ Some s → after ≡ Some t → (choice : CutChoice) →
+    StandsFor (image_of choice t)
+    (with_gates (gates_left choice marks (file_in s.now.bytes).gates) (file_in s.now.bytes))
 
 -- whether a gate names the copy of a cell that doesn't count
 abbrev pub names_spare : Cell → ℕ → Bool

@@ -2,14 +2,19 @@
 #![tactic(auto)]
 
 mod cells;
+mod device;
+mod drops;
 mod gates;
 mod known;
+mod pieces;
+mod puts;
 mod spool;
 mod staged;
 mod states;
 mod stored;
+mod upgrades;
 
-pub use known::MARK_STEP;
+pub use known::{MARK_STEP, message_size};
 pub use spool::Spool;
 pub use staged::Staged;
 pub use states::{Dropping, Formatting, OldestAnswer, Raw, Recovering, Reserving, Spent, Staging};

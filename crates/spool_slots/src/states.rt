@@ -43,11 +43,11 @@ pub enum Recovering<D> {
 /// Why a message wasn't staged.
 #[derive(Debug, Drop)]
 pub enum Staging<D: Disk> {
-    /// Each slot holds a message.
+    /// Fewer slots are left than the message takes.
     Full(Spool<D>),
-    /// The body has more than 4,081 bytes.
+    /// The body has more bytes than a message of such a file may have, or than all its slots have room for.
     TooLong(Spool<D>),
-    /// The next number would be 2^63.
+    /// The numbers that the message takes would pass 2^63.
     NumbersSpent(Spool<D>),
     Failed(Spent<D>),
 }
@@ -114,9 +114,10 @@ impl<D: Disk> Raw<D> {
     }
 
     /// Takes up the list and the mark for which the device's bytes stand, after a sync, and writes nothing. Bytes that
-    /// stand for none are `NotSpool`, with the first place at which they break. It makes one read of 46 bytes, and one
-    /// of 15 of each slot; a second one of the slots only where the numbers of those that stand have a gap. The next
-    /// number of an empty list is the floor.
+    /// stand for none are `NotSpool`, with the first place at which they break. It makes one read of 47 bytes, and one
+    /// of 15 of each slot. In a file of version 1 it makes a second one of the slots only where the numbers of those
+    /// that stand have a gap; in one of version 2 always, behind one of each of the last slots, of which 257 count at
+    /// most. The next number of an empty list is the floor.
     pub fn recover(self) -> Result<Spool<D>, Recovering<D>>
         ensures { Recovers D.Disk self.disk result }
     {

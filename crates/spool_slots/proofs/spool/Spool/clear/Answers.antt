@@ -6,7 +6,8 @@ use Rattle.spool_file.specs.File.{file_in}
 use Rattle.spool_file.specs.Front.{floor_cell}
 use Rattle.spool_file.specs.declared.recovery.Known.{Known}
 use Rattle.spool_file.proofs.Lists.{none_long}
-use Rattle.spool_slots.specs.Changes.{Clears, HasMoved, MovesFloor, cleared_in}
+use Rattle.spool_slots.specs.Changes.{Clears, HasMoved, MovesFloor}
+use Rattle.spool_slots.specs.Files.{cleared_in}
 use Rattle.spool_slots.specs.Spool.{IsSpool, SpoolView, in_hand}
 use Rattle.spool_slots.proofs.Celled.{cell}
 use Rattle.spool_slots.proofs.Marks.{clear_spool, move_ends, move_images, move_lost, new_floored, same_floored}
@@ -15,7 +16,7 @@ use Rattle.spool_slots.proofs.spool.Spool.clear.Goals as goal
 pub write_cell-requires-clause-settled : goal.write_cell-requires-clause-settled
 write_cell-requires-clause-settled g c = λ s told.
     let k = c.self.inside.known in
-    cell s k (c.self.invariant.rests s told) c.self.invariant.some floor_cell (omega arith)
+    cell s k (c.self.invariant.rests s told) c.self.invariant.room floor_cell (omega arith)
 
 pub taken_up-requires : goal.taken_up-requires
 taken_up-requires g c =
@@ -33,7 +34,7 @@ returns-in-Ok g c =
     let d' = c.in-Ok.disk in
     let one : 0 < k.len = grind (arith, c.if-known-eq0.false) in
     let is = c.self.invariant in
-    let next : Known = record { slots = k.slots; first = k.next; next = k.next; len = 0; mark = k.mark } in
+    let next : Known = record { version = k.version; slots = k.slots; first = k.next; next = k.next; len = 0; mark = k.mark } in
     let moved : HasMoved g.D.Disk d d' floor_cell k.next (cleared_in k.next) Done = record {
       images = move_images (g.D.Disk.told d) (g.D.Disk.told d') floor_cell k.next (cleared_in k.next)
           (same_floored g.D.Disk d d' k is)
@@ -91,6 +92,7 @@ returns-then-known-eq0 g c =
     subst (λ (v : SpoolView g.row.D.Denot). Clears g.D.Disk v (Ok v)) c.self.view_is
     (inl (
       none,
+      c.self.invariant.none none,
       refl,
       λ s told. none_long (file_in s.now.bytes).list
           (sym (c.self.invariant.rests s told).count ∙ none),

@@ -1,72 +1,58 @@
--- The slot that was read has the message of this number, and the look keeps the spool.
+-- A message is there exactly where its slot says so.
 
-use Rattle.std.proofs.Common.{◌≡◌, ◌∙◌, ◌%◌, ◌<◌, ◌≤◌, ℕ, length, Some, refl, ap, subst, arith}
-use Rattle.disk_base.specs.Calls.{Logs, read_call}
-use Rattle.disk_base.specs.Faults.{IsLeftOut}
-use Rattle.disk_base.specs.Story.{Story, bytes_at}
+use Rattle.std.proofs.Common.{inl, inr, refl, subst}
 use Rattle.disk_base.specs.declared.disk.DiskAnswer.TheVariants.{Done, Failed}
-use Rattle.spool_file.specs.Slot.{slot_place}
-use Rattle.spool_slots.specs.Changes.{IsFound, HasLooked}
-use Rattle.spool_slots.specs.Spool.{SpoolView, in_hand}
-use Rattle.spool_slots.proofs.Looking.{found_there, looked_on}
+use Rattle.spool_slots.specs.Changes.{Looks, LooksOn}
+use Rattle.spool_slots.specs.Spool.{SpoolView}
+use Rattle.spool_slots.specs.declared.states.OldestAnswer.TheVariants as oldest
+use Rattle.spool_slots.proofs.Looking.{found_at, missed_out, missed_there}
 use Rattle.spool_slots.proofs.spool.Spool.message_at.Goals as goal
 
-pub returns : goal.returns
-returns g c =
+pub returns-then-is_out : goal.returns-then-is_out
+returns-then-is_out g c =
     let k = c.self.inside.known in
-    let from : k.first ≤ c.args.number = omega (arith, c.if-number-self.false) in
-    let below : c.args.number < k.next = omega (arith, c.if-number-self-2.false) in
-    let place : c.slot_place-at.result ≡ slot_place (c.args.number % k.slots) = c.slot_place-at.ensures ∙ ap slot_place c.slot_of.ensures.slot in
-    let long : length c.read.new.into ≡ 4096 = grind (arith, c.read.auto.into, c.told-into) in
-    subst (λ (v : SpoolView g.row.D.Denot). HasLooked g.D.Disk v (in_hand c.read.new.self k) (c.args.number % v.slots) Done
-    × (v.first ≤ c.args.number) × (c.args.number < v.next)
-    × ((s : Story) → g.D.Disk.told v.disk ≡ Some s → IsFound s v.slots v.first c.args.number c.read.new.into c.head_in.result)) c.self.view_is (
-      record {
-        even = c.self.invariant.even;
-        same = refl;
-        told = c.in-Done.ensures.told;
-        size = c.in-Done.ensures.size;
-        calls = subst (λ at. Logs (read_call at 4096) (IsLeftOut (g.D.Disk.health c.self.inside.disk) (g.D.Disk.health c.read.new.self) 0 0) (g.D.Disk.calls c.self.inside.disk) (g.D.Disk.calls c.read.new.self) Done) place
-            (subst (λ n. Logs (read_call c.slot_place-at.result n) (IsLeftOut (g.D.Disk.health c.self.inside.disk) (g.D.Disk.health c.read.new.self) 0 0) (g.D.Disk.calls c.self.inside.disk) (g.D.Disk.calls c.read.new.self) Done)
-            c.told-into c.in-Done.ensures.calls);
-        cause = c.in-Done.ensures.cause;
-        same_disk = c.in-Done.ensures.same_disk;
-      },
-      from,
-      below,
-      λ s is. found_there s k c.args.number c.read.new.into c.head_in.result (c.self.invariant.rests s is)
-          c.self.invariant.even from below
-          (c.in-Done.ensures.bytes s is ∙ ap (λ (n : ℕ). bytes_at s.now.bytes c.slot_place-at.result n) long
-          ∙ ap (λ (at : ℕ). bytes_at s.now.bytes at 4096) place) c.head_in.ensures,
+    let out = c.is_out.ensures.out c.if-is_out.true in
+    subst (λ (v : SpoolView g.row.D.Denot). Looks g.D.Disk v v c.args.number c.args.into.now c.args.into.now oldest.Empty)
+    c.self.view_is (
+      λ s told. missed_out s k c.args.number (c.self.invariant.rests s told) out,
+      inl (refl, refl, out),
     )
-
-pub invariant_of-self : goal.invariant_of-self
-invariant_of-self g c =
-    looked_on g.D.Disk c.self.inside.disk c.read.new.self c.self.inside.known c.self.invariant c.in-Failed.ensures.told c.in-Failed.ensures.size
-
-pub invariant_of-self-2 : goal.invariant_of-self-2
-invariant_of-self-2 g c =
-    looked_on g.D.Disk c.self.inside.disk c.read.new.self c.self.inside.known c.self.invariant c.in-Done.ensures.told c.in-Done.ensures.size
 
 pub returns-in-Failed : goal.returns-in-Failed
 returns-in-Failed g c =
+    let within = c.is_out.ensures.within c.if-is_out.false in
+    subst (λ (v : SpoolView g.row.D.Denot). LooksOn g.D.Disk v c.look.new.self c.args.number c.look.new.into Failed →
+    Looks g.D.Disk v c.look.new.self c.args.number c.args.into.now c.look.new.into oldest.Failed) c.self.view_is
+    (λ look. (look, within)) c.in-Failed.ensures
+
+pub returns-in-Some : goal.returns-in-Some
+returns-in-Some g c =
     let k = c.self.inside.known in
-    let from : k.first ≤ c.args.number = omega (arith, c.if-number-self.false) in
-    let below : c.args.number < k.next = omega (arith, c.if-number-self-2.false) in
-    let place : c.slot_place-at.result ≡ slot_place (c.args.number % k.slots) = c.slot_place-at.ensures ∙ ap slot_place c.slot_of.ensures.slot in
-    subst (λ (v : SpoolView g.row.D.Denot). HasLooked g.D.Disk v (in_hand c.read.new.self k) (c.args.number % v.slots) Failed
-    × (v.first ≤ c.args.number) × (c.args.number < v.next)) c.self.view_is (
+    let within = c.is_out.ensures.within c.if-is_out.false in
+    let found = c.in-Some.ensures in
+    subst (λ (v : SpoolView g.row.D.Denot). LooksOn g.D.Disk v c.look.new.self c.args.number c.look.new.into Done →
+    Looks g.D.Disk v c.look.new.self c.args.number c.args.into.now c.look.new.into (oldest.Found c.in-Some.head))
+    c.self.view_is
+    (λ look. (
+      look.0,
+      within,
       record {
-        even = c.self.invariant.even;
-        same = refl;
-        told = c.in-Failed.ensures.told;
-        size = c.in-Failed.ensures.size;
-        calls = subst (λ at. Logs (read_call at 4096) (IsLeftOut (g.D.Disk.health c.self.inside.disk) (g.D.Disk.health c.read.new.self) 0 0) (g.D.Disk.calls c.self.inside.disk) (g.D.Disk.calls c.read.new.self) Failed) place
-            (subst (λ n. Logs (read_call c.slot_place-at.result n) (IsLeftOut (g.D.Disk.health c.self.inside.disk) (g.D.Disk.health c.read.new.self) 0 0) (g.D.Disk.calls c.self.inside.disk) (g.D.Disk.calls c.read.new.self) Failed)
-            c.told-into c.in-Failed.ensures.calls);
-        cause = c.in-Failed.ensures.cause;
-        same_disk = c.in-Failed.ensures.same_disk;
+        slot = look.1;
+        head_in = found.0;
+        listed = λ s told. found_at s k (c.self.invariant.rests s told) c.self.invariant.room c.args.number
+            c.look.new.into (look.1 s told) within.0 found.1 c.in-Some.head found.0;
       },
-      from,
-      below,
-    )
+      found.1,
+    )) c.in-Done.ensures
+
+pub returns-in-None : goal.returns-in-None
+returns-in-None g c =
+    let k = c.self.inside.known in
+    let within = c.is_out.ensures.within c.if-is_out.false in
+    subst (λ (v : SpoolView g.row.D.Denot). LooksOn g.D.Disk v c.look.new.self c.args.number c.look.new.into Done →
+    Looks g.D.Disk v c.look.new.self c.args.number c.args.into.now c.look.new.into oldest.Empty) c.self.view_is
+    (λ look. (
+      λ s told. missed_there s k (c.self.invariant.rests s told) c.self.invariant.room c.args.number c.look.new.into
+          (look.1 s told) c.in-None.ensures,
+      inr (look.0, within, look.1, c.in-None.ensures),
+    )) c.in-Done.ensures

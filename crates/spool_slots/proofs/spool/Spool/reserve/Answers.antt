@@ -4,7 +4,8 @@ use Rattle.std.proofs.Common.{◌∙◌, ◌+◌, Ok, refl, ap, sym, subst, arit
 use Rattle.disk_base.specs.declared.disk.DiskAnswer.TheVariants.{Done, Failed}
 use Rattle.spool_file.specs.Front.{mark_cell}
 use Rattle.spool_file.specs.declared.recovery.Known.{Known}
-use Rattle.spool_slots.specs.Changes.{HasMoved, MovesMark, Reserves, reserved_in}
+use Rattle.spool_slots.specs.Changes.{HasMoved, MovesMark, Reserves}
+use Rattle.spool_slots.specs.Files.{reserved_in}
 use Rattle.spool_slots.specs.Spool.{IsSpool, SpoolView, in_hand}
 use Rattle.spool_slots.proofs.Celled.{cell}
 use Rattle.spool_slots.proofs.Marks.{move_ends, move_images, move_lost, new_marked, reserve_spool, same_marked}
@@ -13,7 +14,7 @@ use Rattle.spool_slots.proofs.spool.Spool.reserve.Goals as goal
 pub write_cell-requires-clause-settled : goal.write_cell-requires-clause-settled
 write_cell-requires-clause-settled g c = λ s told.
     let k = c.self.inside.known in
-    cell s k (c.self.invariant.rests s told) c.self.invariant.some mark_cell (omega arith)
+    cell s k (c.self.invariant.rests s told) c.self.invariant.room mark_cell (omega arith)
 
 pub taken_up-requires : goal.taken_up-requires
 taken_up-requires g c =
@@ -30,7 +31,7 @@ returns-in-Ok g c =
     let d' = c.in-Ok.disk in
     let left = c.if-known-gt-MARK_MOST.false in
     let is = c.self.invariant in
-    let next : Known = record { slots = k.slots; first = k.first; next = k.next; len = k.len; mark = k.mark + 4096 } in
+    let next : Known = record { version = k.version; slots = k.slots; first = k.first; next = k.next; len = k.len; mark = k.mark + 4096 } in
     let moved : HasMoved g.D.Disk d d' mark_cell (k.mark + 4096) reserved_in Done = record {
       images = move_images (g.D.Disk.told d) (g.D.Disk.told d') mark_cell (k.mark + 4096) reserved_in
           (same_marked g.D.Disk d d' k is)

@@ -1,81 +1,85 @@
--- The parts of the message stand in a closed slot, or that failed, at the look or behind it: the list is as it was.
+-- The message stands in its slots, which are closed, or that failed: the list is as it was.
 
-use Rattle.std.proofs.Common.{◌∙◌, ◌+◌, ◌%◌, ◌<◌, Ok, sym, subst, arith}
+use Rattle.std.proofs.Common.{ℕ, length, Ok, sym, subst, arith}
 use Rattle.disk_base.specs.declared.disk.DiskAnswer.TheVariants.{Done, Failed}
-use Rattle.spool_file.specs.Slot.{slot_place}
-use Rattle.spool_slots.specs.Changes.{HasSettled, HasStaged, LosesStage, Stages, parts_of}
-use Rattle.spool_slots.specs.Spool.{SpoolView, in_hand}
-use Rattle.spool_slots.proofs.Together.{shut_lost, stage_does, stage_spool, stage_unshut, stages, unshut_lost}
+use Rattle.spool_file.proofs.BodySizes.{within_all, within_body}
+use Rattle.spool_slots.specs.Calls.{part_calls}
+use Rattle.spool_slots.specs.Changes.{HasRoomFor, HasStaged, LosesStage, Stages}
+use Rattle.spool_slots.specs.Put.{HasPut}
+use Rattle.spool_slots.specs.Spool.{IsStagedSpool, SpoolView, StagedView, in_hand, staged}
+use Rattle.spool_slots.proofs.Losing.{spool_done, stage_done, stage_failed, stage_lost}
 use Rattle.spool_slots.proofs.spool.Spool.stage.Goals as goal
 
-pub with_parts-requires : goal.with_parts-requires
-with_parts-requires g c =
+pub put_parts-requires-clause-body : goal.put_parts-requires-clause-body
+put_parts-requires-clause-body g c =
     let k = c.self.inside.known in
-    let m = c.args.message.now in
-    let free : k.len < k.slots = grind (arith, c.self.invariant.room, c.if-self.false) in
-    let done : HasSettled g.D.Disk c.shut_gate.new.disk c.settle_parts.new.disk (slot_place (k.next % k.slots) + 1)
-    (parts_of k.next m.stream m.function m.body.now) Done =
-    subst (λ part. HasSettled g.D.Disk c.shut_gate.new.disk c.settle_parts.new.disk (slot_place (k.next % k.slots) + 1)
-    part Done)
-    (c.deref.ensures.0 ∙ c.parts_of-parts.ensures) c.in-Done-settle_parts.ensures in
-    stage_spool g.D.Disk c.self.inside.disk c.shut_gate.new.disk k c.self.invariant m.stream m.function m.body.now free
-    c.if-message.false
-    c.if-next-ge-NUMBERS.false c.in-Done.ensures.shut c.requires.stream c.requires.function c.settle_parts.new.disk done
+    within_body k.version k.slots (length c.args.message.now.body.now) c.in-Takes.ensures.0
 
-pub returns-in-Done-settle_parts : goal.returns-in-Done-settle_parts
-returns-in-Done-settle_parts g c =
+pub put_parts-requires-clause-most : goal.put_parts-requires-clause-most
+put_parts-requires-clause-most g c =
     let k = c.self.inside.known in
+    let most = within_all k.version k.slots (length c.args.message.now.body.now) c.in-Takes.ensures.0 in
+    omega (arith, most, c.in-Takes.ensures.1.0)
+
+pub with_pieces-requires : goal.with_pieces-requires
+with_pieces-requires g c =
+    let k = c.self.inside.known in
+    let d = c.self.inside.disk in
+    let d' = c.put_parts.new.disk in
     let m = c.args.message.now in
-    let free : k.len < k.slots = grind (arith, c.self.invariant.room, c.if-self.false) in
-    let done : HasSettled g.D.Disk c.shut_gate.new.disk c.settle_parts.new.disk (slot_place (k.next % k.slots) + 1)
-    (parts_of k.next m.stream m.function m.body.now) Done =
-    subst (λ part. HasSettled g.D.Disk c.shut_gate.new.disk c.settle_parts.new.disk (slot_place (k.next % k.slots) + 1)
-    part Done)
-    (c.deref.ensures.0 ∙ c.parts_of-parts.ensures) c.in-Done-settle_parts.ensures in
-    subst (λ (w : SpoolView g.row.D.Denot). Stages g.D.Disk c.args.self m.stream m.function m.body.now (Ok w))
-    (sym c.with_parts.ensures)
+    let fit = c.in-Takes.ensures in
+    let room : HasRoomFor (in_hand d k) (length m.body.now) = record {
+      from = let from = c.self.invariant.from in omega (arith, from);
+      short = fit.0;
+      free = fit.1.1;
+      number = fit.1.2;
+    } in
+    let put = subst (λ (n : ℕ). HasPut g.D.Disk d d' k.slots k.next n
+    (part_calls k.slots k.next m.stream m.function m.body.now) Done) fit.1.0 c.in-Done.ensures in
+    subst (λ (n : ℕ). IsStagedSpool g.D.Disk (staged d' k n)) (sym fit.1.0)
+    (spool_done g.D.Disk d d' k c.self.invariant m.stream m.function m.body.now room c.requires.stream
+    c.requires.function put)
+
+pub returns-in-Done : goal.returns-in-Done
+returns-in-Done g c =
+    let k = c.self.inside.known in
+    let d = c.self.inside.disk in
+    let d' = c.put_parts.new.disk in
+    let m = c.args.message.now in
+    let fit = c.in-Takes.ensures in
+    let room : HasRoomFor (in_hand d k) (length m.body.now) = record {
+      from = let from = c.self.invariant.from in omega (arith, from);
+      short = fit.0;
+      free = fit.1.1;
+      number = fit.1.2;
+    } in
+    let put = subst (λ (n : ℕ). HasPut g.D.Disk d d' k.slots k.next n
+    (part_calls k.slots k.next m.stream m.function m.body.now) Done) fit.1.0 c.in-Done.ensures in
+    subst (λ (w : StagedView g.row.D.Denot). Stages g.D.Disk c.args.self m.stream m.function m.body.now (Ok w))
+    (sym c.with_pieces.ensures)
     (subst (λ (v : SpoolView g.row.D.Denot). Stages g.D.Disk v m.stream m.function m.body.now
-    (Ok (in_hand c.settle_parts.new.disk k))) c.self.view_is
-    (stages g.D.Disk c.self.inside.disk c.shut_gate.new.disk k c.self.invariant m.stream m.function m.body.now free
-    c.if-message.false
-    c.if-next-ge-NUMBERS.false c.in-Done.ensures.shut c.requires.stream c.requires.function c.settle_parts.new.disk
-    done))
-
-pub returns-in-Failed-settle_parts : goal.returns-in-Failed-settle_parts
-returns-in-Failed-settle_parts g c =
-    let k = c.self.inside.known in
-    let m = c.args.message.now in
-    let free : k.len < k.slots = grind (arith, c.self.invariant.room, c.if-self.false) in
-    let done : HasSettled g.D.Disk c.shut_gate.new.disk c.settle_parts.new.disk (slot_place (k.next % k.slots) + 1)
-    (parts_of k.next m.stream m.function m.body.now) Failed =
-    subst (λ part. HasSettled g.D.Disk c.shut_gate.new.disk c.settle_parts.new.disk (slot_place (k.next % k.slots) + 1)
-    part Failed)
-    (c.deref.ensures.0 ∙ c.parts_of-parts.ensures) c.in-Failed-settle_parts.ensures in
-    subst (λ (v : SpoolView g.row.D.Denot). HasStaged g.D.Disk v m.stream m.function m.body.now c.settle_parts.new.disk
-    Failed
-    × LosesStage g.D.Disk v m.stream m.function m.body.now c.settle_parts.new.disk) c.self.view_is (
-      stage_does g.D.Disk c.self.inside.disk c.shut_gate.new.disk k c.self.invariant m.stream m.function m.body.now free
-          c.if-message.false
-          c.if-next-ge-NUMBERS.false c.in-Done.ensures.shut c.requires.stream c.requires.function
-          c.settle_parts.new.disk Failed done,
-      shut_lost g.D.Disk c.self.inside.disk c.shut_gate.new.disk k c.self.invariant m.stream m.function m.body.now free
-          c.if-message.false
-          c.if-next-ge-NUMBERS.false c.in-Done.ensures.shut c.requires.stream c.requires.function
-          c.settle_parts.new.disk Failed done,
-    )
+    (Ok (staged d' k c.in-Takes.size))) c.self.view_is
+    (subst (λ (n : ℕ). Stages g.D.Disk (in_hand d k) m.stream m.function m.body.now (Ok (staged d' k n))) (sym fit.1.0)
+    (stage_done g.D.Disk d d' k c.self.invariant m.stream m.function m.body.now room c.requires.stream
+    c.requires.function put)))
 
 pub returns-in-Failed : goal.returns-in-Failed
 returns-in-Failed g c =
     let k = c.self.inside.known in
+    let d = c.self.inside.disk in
+    let d' = c.put_parts.new.disk in
     let m = c.args.message.now in
-    let free : k.len < k.slots = grind (arith, c.self.invariant.room, c.if-self.false) in
-    subst (λ (v : SpoolView g.row.D.Denot). HasStaged g.D.Disk v m.stream m.function m.body.now c.shut_gate.new.disk
-    Failed
-    × LosesStage g.D.Disk v m.stream m.function m.body.now c.shut_gate.new.disk) c.self.view_is (
-      stage_unshut g.D.Disk c.self.inside.disk c.shut_gate.new.disk k c.self.invariant m.stream m.function m.body.now
-          free c.if-message.false
-          c.if-next-ge-NUMBERS.false c.in-Failed.ensures.shut,
-      unshut_lost g.D.Disk c.self.inside.disk c.shut_gate.new.disk k c.self.invariant m.stream m.function m.body.now
-          free c.if-message.false
-          c.if-next-ge-NUMBERS.false c.in-Failed.ensures.shut c.in-Failed.ensures.loss,
+    let fit = c.in-Takes.ensures in
+    let room : HasRoomFor (in_hand d k) (length m.body.now) = record {
+      from = let from = c.self.invariant.from in omega (arith, from);
+      short = fit.0;
+      free = fit.1.1;
+      number = fit.1.2;
+    } in
+    let put = subst (λ (n : ℕ). HasPut g.D.Disk d d' k.slots k.next n
+    (part_calls k.slots k.next m.stream m.function m.body.now) Failed) fit.1.0 c.in-Failed.ensures in
+    subst (λ (v : SpoolView g.row.D.Denot). HasStaged g.D.Disk v m.stream m.function m.body.now d' Failed
+    × LosesStage g.D.Disk v m.stream m.function m.body.now d') c.self.view_is (
+      stage_failed g.D.Disk d d' k c.self.invariant m.stream m.function m.body.now room put,
+      stage_lost g.D.Disk d d' k c.self.invariant m.stream m.function m.body.now room put,
     )
