@@ -1,25 +1,25 @@
 -- What a crash leaves of a work that is on its way.
-use Rattle.std.proofs.Common.{◌≡◌, ⊎_elim, inl, inr, ℕ, ◌<◌, Bool, true, false, if◌then◌else◌, List, [], ◌∷◌, ◌++◌}
-use Rattle.std.proofs.Common.{length, Option, None, Some, Ok, Err, refl, sym, ap, subst, ◌∙◌, arith}
+use Rattle.std.proofs.Common.{◌≡◌, ⊎_elim, inl, inr, ℕ, ◌<◌, List, [], ◌∷◌, ◌++◌}
+use Rattle.std.proofs.Common.{length, Option, Some, Ok, Err, sym, ap, subst, ◌∙◌, arith}
 use Rattle.disk_base.specs.Story.{Story}
 use Rattle.disk_base.specs.Through.{GoesThrough}
 use Rattle.disk_base.specs.declared.disk.Disk as disk
 use Rattle.disk_base.proofs.Moments.{only_now, starts, through_more}
-use Rattle.gem_spool.proofs.Doing.{clear_file, drop_file, len_is, next_is, put_file, same_file}
-use Rattle.gem_spool.specs.Updates.{IsAmidUpdates, Update, behind_gate, closing}
+use Rattle.gem_spool.proofs.Doing.{clear_file, drop_file, len_is, put_file, same_file}
+use Rattle.gem_spool.specs.Updates.{Commit, IsAmidCommit, IsAmidUpdates, Update}
+use Rattle.gem_spool.specs.Updates.Commit.{ByGate, ByGates, Nothing}
 use Rattle.gem_spool.specs.Spool.{IsPutting, numbered}
 use Rattle.gem_spool.specs.Standing.{Standing, Stands}
-use Rattle.gem_spool.specs.Works.{Does, IsAmid, IsOnWay, is_stale, updates_of, next_place, purge_updates, stale_gate}
-use Rattle.gem_spool.specs.Works.{standing_after, standings_after, unstale}
+use Rattle.gem_spool.specs.Works.{Does, IsAmid, IsOnWay, purge_updates, standing_after, standings_after, updates_of}
 use Rattle.gem_spool.specs.declared.spool.GemSpool.{GemSpool}
 use Rattle.gem_spool.specs.declared.works.Work.{Work}
 use Rattle.gem_spool.specs.declared.works.Work.TheVariants as work
 use Rattle.spool_file.specs.File.{SpoolFile, StandsFor, file_in}
 use Rattle.spool_file.specs.Slot.{Message}
-use Rattle.spool_slots.specs.Changes.{Clears, HoldsThrough, IsSameOr, cleared_in, dropped_in, with_shut}
+use Rattle.spool_slots.specs.Changes.{Clears, HoldsThrough, IsSameOr}
+use Rattle.spool_slots.specs.Files.{cleared_in, dropped_in, with_gates}
 use Rattle.spool_slots.specs.Spool.{SpoolView}
 use Rattle.spool_slots.specs.declared.states.Spent.{Spent}
-use Rattle.spool_slots.proofs.Stale.{shut_same_file}
 
 -- ---- on the way
 
@@ -27,7 +27,11 @@ use Rattle.spool_slots.proofs.Stale.{shut_same_file}
 pub amid_starts : (updates : List Update) (st : Standing) (image : List ℕ) → StandsFor image st.file →
     IsAmidUpdates st updates image
 amid_starts [] st image is = is
-amid_starts (update ∷ updates) st image is = inl is
+amid_starts (update ∷ updates) st image is = inl (at_commit update.commit is) where
+  at_commit : (commit : Commit) → StandsFor image st.file → IsAmidCommit st commit image
+  at_commit Nothing is = is
+  at_commit (ByGate gate) is = is
+  at_commit (ByGates gates) is = (st.file.gates, is)
 
 pub way_starts : (st : Standing) (works : List Work) (image : List ℕ) → StandsFor image st.file → IsOnWay st works image
 way_starts st [] image is = is
@@ -45,19 +49,6 @@ way_behind st [] ys image is = is
 way_behind st (x ∷ xs) ys image is = inr (way_behind (standing_after st x) xs ys image is)
 
 -- ---- the updates of a work
-
--- where its gate isn't stale, the next slot is shut, and behind the look at it in any case
-pub not_stale : (st : Standing) → is_stale st ≡ false → st.file ≡ with_shut st.next st.file
-not_stale st is = sym (shut_same_file st.next st.file is)
-
-shut_file : (st : Standing) → (behind_gate st (stale_gate st)).file ≡ with_shut st.next st.file
-shut_file st = go (is_stale st) refl
-  where
-    go : (stale : Bool) → is_stale st ≡ stale →
-        (behind_gate st (if stale then Some (closing (next_place st) (unstale st)) else None)).file
-        ≡ with_shut st.next st.file
-    go true is = refl
-    go false is = not_stale st is
 
 -- some are purged by one update
 pub purge_one : (st : Standing) (P : List Update → Type 0) → 0 < length st.file.list →
@@ -90,24 +81,20 @@ module _ {D : Type 0} (members : disk.Ghosts D) (v : SpoolView D) (st : Standing
     where
       way : (image : List ℕ) → IsPutting (numbered v stream function body) s.now.bytes image →
           IsAmid st (work.Put stream function body) image
-      way image (inl (inl left)) = inl (as_told (λ f. f) image left)
-      way image (inl (inr left)) =
-          inr (inl (subst (StandsFor image) (sym (shut_file st))
-          (subst (λ (n : ℕ). StandsFor image (with_shut n st.file)) (next_is members v st stands)
-          (as_told (with_shut v.next) image left))))
+      way image (inl (gates, left)) = inl (gates, as_told (with_gates gates) image left)
       way image (inr left) =
           inr (inr (subst (StandsFor image) (put_file members v st stream function body stands s told) left))
 
-  pub drop_amid : HoldsThrough (members.told v.disk) after (IsSameOr dropped_in) →
-      GoesThrough s after (IsAmid st (work.DropOldest 1))
-  drop_amid images =
+  pub drop_amid : (slots : ℕ) → HoldsThrough (members.told v.disk) after (IsSameOr dropped_in) →
+      GoesThrough s after (IsAmid st (work.DropOldest slots))
+  drop_amid slots images =
       let one = images s told in (
         one.0,
         one.1,
-        through_more s one.0 (IsSameOr dropped_in s.now.bytes) (IsAmid st (work.DropOldest 1))
+        through_more s one.0 (IsSameOr dropped_in s.now.bytes) (IsAmid st (work.DropOldest slots))
             (λ image. ⊎_elim (λ (left : StandsFor image (file_in s.now.bytes)). inl (as_told (λ f. f) image left))
             (λ (left : StandsFor image (dropped_in s.now.bytes)). inr
-            (subst (StandsFor image) (drop_file members v st stands s told) left))) one.2,
+            (subst (StandsFor image) (drop_file members v st slots stands s told) left))) one.2,
       )
 
   pub purge_amid : 0 < v.len → HoldsThrough (members.told v.disk) after (IsSameOr (cleared_in v.next)) →
@@ -144,13 +131,13 @@ module _ {D : Type 0} (members : disk.Ghosts D) where
   does_amid g h (work.Put stream function body) st stands done s told =
       put_amid members g.spool st stands (members.told h.spool.disk) s told stream function body done.0.images
   does_amid g h (work.DropOldest slots) st stands done s told =
-      drop_amid members g.spool st stands (members.told h.spool.disk) s told done.0.0.images
+      drop_amid members g.spool st stands (members.told h.spool.disk) s told slots done.0.0.images
   does_amid g h work.Purge st stands done s told = go done.0
     where
       go : Clears members g.spool (Ok h.spool) → GoesThrough s (members.told h.spool.disk) (IsAmid st work.Purge)
       go (inl none) =
           none_amid members g.spool st stands (members.told h.spool.disk) s told
-          (ap (λ (x : SpoolView D). members.told x.disk) none.1) (updates_of st work.Purge)
+          (ap (λ (x : SpoolView D). members.told x.disk) none.2) (updates_of st work.Purge)
       go (inr moved) =
           purge_amid members g.spool st stands (members.told h.spool.disk) s told moved.0.0 moved.0.1.0.images
 
@@ -160,6 +147,6 @@ module _ {D : Type 0} (members : disk.Ghosts D) where
   fails_amid g (work.Put stream function body) spent st stands failed s told =
       put_amid members g.spool st stands (members.told spent.disk) s told stream function body failed.0.images
   fails_amid g (work.DropOldest slots) spent st stands failed s told =
-      drop_amid members g.spool st stands (members.told spent.disk) s told failed.0.images
+      drop_amid members g.spool st stands (members.told spent.disk) s told slots failed.0.images
   fails_amid g work.Purge spent st stands failed s told =
       purge_amid members g.spool st stands (members.told spent.disk) s told failed.0 failed.1.0.images

@@ -4,6 +4,8 @@ pub mod Called
 pub mod Carrying
 pub mod Doing
 pub mod First
+pub mod Pieces
 pub mod Lists
+pub mod OldestRead
 pub mod Putting
 pub mod Stays

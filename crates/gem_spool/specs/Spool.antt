@@ -1,7 +1,7 @@
 -- What each call does to the spool of the equipment (this profile).
-use Rattle.std.specs.Prelude.{◌≡◌, ◌⊎◌, ◌==◌, Bool, true, false, nat_le, nat_lt, if◌then◌else◌, ℕ, ◌+◌, ◌^◌, ◌<◌}
-use Rattle.std.specs.Prelude.{List, [], ◌∷◌, ◌++◌, drop, length, Option, Some, None, Result, Ok, Err}
-use Rattle.disk_base.specs.Calls.{DiskCall, sync_call, write_call}
+use Rattle.std.specs.Prelude.{◌≡◌, ◌⊎◌, Bool, true, false, nat_lt, if◌then◌else◌, ℕ, ◌+◌, ◌^◌, ◌<◌, List, [], ◌∷◌}
+use Rattle.std.specs.Prelude.{◌++◌, drop, length, Option, Some, None, Result, Ok, Err}
+use Rattle.disk_base.specs.Calls.{DiskCall}
 use Rattle.disk_base.specs.Story.{Story}
 use Rattle.disk_base.specs.declared.disk.Disk as disk
 use Rattle.disk_base.specs.declared.disk.DiskAnswer.{DiskAnswer}
@@ -13,24 +13,30 @@ use Rattle.gem_spool.specs.declared.spool.PutAnswer.{PutAnswer}
 use Rattle.gem_spool.specs.declared.spool.PutAnswer.TheVariants as answer
 use Rattle.gem_spool.specs.declared.spool.Room.{Room}
 use Rattle.gem_spool.specs.declared.spool.Room.TheVariants as room
-use Rattle.spool_file.specs.File.{Ends, SpoolFile, StandsFor, file_in, is_open_at}
+use Rattle.spool_file.specs.File.{Ends, SpoolFile, StandsFor, file_in}
 use Rattle.spool_file.specs.Logs.{MakesAll}
-use Rattle.spool_file.specs.Slot.{Message, slot_place}
-use Rattle.spool_slots.specs.Changes.{Clears, Drops, HoldsThrough, IsSameOr, Reserves, Seals, Stages, parts_of, shut_in}
-use Rattle.spool_slots.specs.Changes.{stage_calls, with_message}
-use Rattle.spool_slots.specs.Spool.{SpoolView, in_hand, known_of, next_slot}
+use Rattle.spool_file.specs.Sizes.{slots_for}
+use Rattle.spool_file.specs.Slot.{Message, width}
+use Rattle.spool_slots.specs.Calls.{byte_calls, number_place, stage_calls}
+use Rattle.spool_slots.specs.Changes.{Clears, Drops, HoldsThrough, IsSameBar, Reserves, Seals, Stages, open_gates}
+use Rattle.spool_slots.specs.Files.{shut_in, with_message}
+use Rattle.spool_slots.specs.Spool.{SpoolView, StagedView, in_hand, known_of, message_size}
 use Rattle.spool_slots.specs.declared.states.Dropping.TheVariants as dropping
 use Rattle.spool_slots.specs.declared.states.Reserving.TheVariants as reserving
 use Rattle.spool_slots.specs.declared.states.Spent.{Spent}
 use Rattle.spool_slots.specs.declared.states.Staging.TheVariants as staging
 
--- what there is room for: the first of three limits that a body of this length passes, or none
+-- what there is room for: the first of three limits that a message of this size passes, or none
+abbrev pub room_by : Count → Option ℕ → Room
+room_by c None = room.TooLong
+room_by c (Some size) =
+    if nat_lt (2 ^ 63) (c.next + size) then room.NumbersSpent
+    else (if nat_lt c.slots (c.used + size) then room.Full
+    else room.Fits)
+
+-- and one with a body of this length
 abbrev pub room_in : Count → ℕ → Room
-room_in c long =
-    if nat_lt 4081 long then room.TooLong
-    else (if nat_le (2 ^ 63) c.next then room.NumbersSpent
-    else (if c.len == c.slots then room.Full
-    else room.Fits))
+room_in c long = room_by c (message_size c.version c.slots long)
 
 abbrev pub room_for : {D : Type 0} → SpoolView D → ℕ → Room
 room_for v long = room_in (count_of v) long
@@ -46,27 +52,27 @@ abbrev pub numbered : {D : Type 0} → SpoolView D → ℕ → ℕ → List ℕ 
 numbered v stream function body =
     record { number = v.next; stream = stream; function = function; body = body }
 
--- the file with a message more
+-- the file with a message more, the gates of whose slots were closed before
 abbrev pub put_in : Message → List ℕ → SpoolFile
-put_in message bytes = with_message message (file_in bytes)
+put_in message bytes = with_message message (shut_in message.number (width message) bytes)
 
--- bytes stand for the list as it was, where the gate of the slot may be closed by now, or with the message at its end
+-- bytes stand for the list as it was, where gates of the slots may be closed by now, or with the message at its end
 abbrev pub IsPutting : Message → List ℕ → List ℕ → Type 0
-IsPutting message bytes image =
-    IsSameOr (shut_in message.number) bytes image ⊎ StandsFor image (put_in message bytes)
+IsPutting message bytes image = IsSameBar bytes image ⊎ StandsFor image (put_in message bytes)
 
--- the calls of a put into the slot at a place, the gate of which may be stale
-abbrev pub put_calls : Bool → ℕ → List ℕ → List DiskCall
-put_calls stale at parts = stage_calls stale at parts ++ write_call at (90 ∷ []) Done ∷ sync_call Done ∷ []
+-- the calls of a put: those of its staging, by which gates of its slots are open, and its first gate with a sync
+abbrev pub put_calls : (slots number : ℕ) → List Bool → (stream function : ℕ) → List ℕ → List DiskCall
+put_calls slots number stale stream function body =
+    stage_calls slots number stale stream function body ++ byte_calls (number_place slots number) 90
 
 -- a message was staged, and its gate opened, as far as that went
 abbrev pub StagesAndSeals : {D : Type 0} → disk.Ghosts D → SpoolView D → ℕ → ℕ → List ℕ →
     Result (SpoolView D) (Spent D) → Type 0
 StagesAndSeals {D} members v stream function body (Ok w) =
-    (u : SpoolView D) × Stages members v stream function body (Ok u) × Seals members u (Ok w)
+    (u : StagedView D) × Stages members v stream function body (Ok u) × Seals members u (Ok w)
 StagesAndSeals {D} members v stream function body (Err spent) =
     Stages members v stream function body (Err (staging.Failed spent))
-    ⊎ ((u : SpoolView D) × Stages members v stream function body (Ok u) × Seals members u (Err spent))
+    ⊎ ((u : StagedView D) × Stages members v stream function body (Ok u) × Seals members u (Err spent))
 
 -- a crash leaves the list as it was, or with the message at its end; these calls were made, or up to one that failed
 pub record HasPut {D : Type 0} (members : disk.Ghosts D) (v : SpoolView D) (stream function : ℕ) (body : List ℕ)
@@ -74,11 +80,13 @@ pub record HasPut {D : Type 0} (members : disk.Ghosts D) (v : SpoolView D) (stre
   pub fits : room_for v (length body) ≡ room.Fits
   pub images : HoldsThrough (members.told v.disk) (members.told after)
       (IsPutting (numbered v stream function body))
-  -- whether the next slot's gate was stale, also where the disk tells nothing
-  pub stale : Bool
-  pub stale_is : (s : Story) → members.told v.disk ≡ Some s → stale ≡ is_open_at v.next (file_in s.now.bytes)
+  -- which gates of its slots were open, also where the disk tells nothing
+  pub stale : List Bool
+  pub long : length stale ≡ slots_for (length body)
+  pub stale_is : (s : Story) → members.told v.disk ≡ Some s →
+      stale ≡ open_gates v.next (slots_for (length body)) (file_in s.now.bytes)
   pub makes : MakesAll (members.health v.disk) (members.health after) (members.calls v.disk) (members.calls after)
-      (put_calls stale (slot_place (next_slot v)) (parts_of v.next stream function body)) answer
+      (put_calls v.slots v.next stale stream function body) answer
 
 -- the message stands at the end of the list; or nothing was done, since there is no room
 abbrev pub PutsInto : {D : Type 0} → disk.Ghosts D → GemSpool D → ℕ → ℕ → List ℕ → GemSpool D → PutAnswer → Type 0
@@ -86,7 +94,10 @@ PutsInto members g stream function body h (answer.Stored number) =
     HasPut members g.spool stream function body h.spool.disk Done
     × StagesAndSeals members g.spool stream function body (Ok h.spool) × (number ≡ g.spool.next)
     × (h ≡ record {
-      spool = in_hand h.spool.disk (record (known_of g.spool) { next = g.spool.next + 1; len = g.spool.len + 1 });
+      spool = in_hand h.spool.disk (record (known_of g.spool) {
+        next = g.spool.next + slots_for (length body);
+        len = g.spool.len + 1;
+      });
       active = g.active;
     })
     × ((s t : Story) → members.told g.spool.disk ≡ Some s → members.told h.spool.disk ≡ Some t →

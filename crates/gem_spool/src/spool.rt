@@ -1,6 +1,7 @@
 //! The spool of the equipment: a list of messages and its calls, over the slots of `spool_slots`.
 
-ghost use Rattle.std.specs.Prelude.{◌≡◌, ◌+◌, ◌^◌, ◌<◌, ◌≤◌, ◌%◌, nat_lt, [], List, length, IfOk, Some};
+ghost use Rattle.std.specs.Prelude.{◌≡◌, ◌⊎◌, ◌+◌, ◌^◌, ◌<◌, ◌≤◌, ◌%◌, nat_lt, [], List, length, IfOk, Some};
+ghost use Rattle.disk_base.specs.MemDisk.{HasFitted};
 ghost use Rattle.disk_base.specs.Story.{Story};
 ghost use Rattle.disk_base.specs.Through.{GoesThrough};
 ghost use Rattle.gem_spool.specs.Spool.{Confirms, HasList, PurgesAll, Puts, ReservesMore, Stores};
@@ -11,13 +12,14 @@ ghost use Rattle.gem_spool.specs.Works.{standing_after, standing_after_confirm, 
 ghost use Rattle.gem_spool.specs.Works.{standing_after_reserve};
 ghost use Rattle.gem_spool.specs.declared.works.Work.TheVariants.{Purge};
 ghost use Rattle.gem_spool.specs.declared.spool.Room.TheVariants.{Fits};
+ghost use Rattle.spool_file.specs.Sizes.{slots_for};
 ghost use Rattle.spool_file.specs.Slot.{Message};
-ghost use Rattle.spool_slots.specs.Changes.{Looks};
+ghost use Rattle.spool_slots.specs.Changes.{IsListed, LooksFirst, LooksOn};
 ghost use Rattle.spool_slots.specs.Spool.{Rests, known_of};
 
 use crate::count::Count;
-use disk_base::{Disk, MemDisk};
-use spool_file::SLOT_SIZE;
+use disk_base::{Disk, DiskAnswer, MemDisk};
+use spool_file::{SLOT_SIZE, SlotHead};
 use spool_slots::{Dropping, OldestAnswer, Reserving, Spent, Spool, Staging, Stored};
 
 /// The spool of the equipment: a list of messages with their numbers, which a power loss leaves whole, and whether it
@@ -32,11 +34,11 @@ pub struct GemSpool<D: Disk> {
 #[derive(Clone, Copy, Debug, PartialEq, Eq)]
 pub enum Room {
     Fits,
-    /// Each slot holds a message.
+    /// Fewer slots are left than the message takes.
     Full,
-    /// The body has more than 4,081 bytes.
+    /// The body has more bytes than a message of such a file may have, or than all its slots have room for.
     TooLong,
-    /// The next number would be 2^63.
+    /// The numbers that the message takes would pass 2^63.
     NumbersSpent,
 }
 
@@ -91,21 +93,26 @@ impl<D: Disk> GemSpool<D> {
     /// The numbers that decide which works have their turn.
     pub fn count(&self) -> Count
         ensures count { result ≡ count_of self.now.spool }
+        ensures version { (result.version ≡ 1) ⊎ (result.version ≡ 2) }
         ensures slots { (1 ≤ result.slots) × (result.slots ≤ 65535) }
         ensures range { result.len ≤ result.slots }
+        ensures used { result.used ≤ result.slots }
         ensures bound { result.next ≤ 2 ^ 63 + 65535 }
     {
         Count {
+            version: self.spool.version(),
             slots: self.spool.slots(),
             next: self.spool.next(),
             len: self.spool.len(),
+            used: self.spool.used(),
         }
     }
 
     /// Puts a message at the end of the list, with the next number. It is stored exactly where there is room for it;
     /// elsewhere the answer is that of `room`, and nothing is asked of the disk. A crash finds the list without the
-    /// message or with it at the end, also where the device is handed back, since a call of it failed. It makes five
-    /// calls of the disk, or seven where the slot is open still for a message that a purge took off.
+    /// message or with it at the end, also where the device is handed back, since a call of it failed. It makes a read
+    /// and a write for each of its slots and three calls more, and where gates of these are open still for messages
+    /// that a purge took off, one for each of them and one more.
     pub fn put(self, message: &Stored<'_>) -> Result<(GemSpool<D>, PutAnswer), Spent<D>>
         requires function { message.now.function % 2 ≡ 1 }
         requires stream { message.now.stream < 128 }
@@ -132,7 +139,7 @@ impl<D: Disk> GemSpool<D> {
         ensures confirm { Confirms D.Disk self number result }
         ensures list { (list : List Message) → HasList D.Disk self.spool list →
             IfOk result (λ r. HasList D.Disk r.0.spool (list_after_confirm r.1 list)) }
-        ensures stands { (st : Standing) → Stands D.Disk self.spool st →
+        ensures stands { (st : Standing) → Stands D.Disk self.spool st → (s : Story) → D.told self.spool.disk ≡ Some s →
             IfOk result (λ r. Stands D.Disk r.0.spool (standing_after_confirm r.1 st)) }
     {
         if self.spool.first() != number {
@@ -180,15 +187,32 @@ impl<D: Disk> GemSpool<D> {
         }
     }
 
-    /// Looks at the oldest message. Where it is `Found` the buffer has its slot, in which the body begins at place 15.
+    /// Looks at the oldest message. Where it is `Found` the buffer has its first slot, in which the body begins at place
+    /// 15. `Empty` is the answer of an empty spool alone.
     pub fn oldest(&mut self, into: &mut [u8; SLOT_SIZE]) -> OldestAnswer
-        ensures looks { Looks D.Disk self.old.spool self.new.spool self.old.spool.first into.old into.new result }
+        ensures looks { LooksFirst D.Disk self.old.spool self.new.spool into.old into.new result }
         ensures active { self.new.active ≡ self.old.active }
         ensures list { (list : List Message) → HasList D.Disk self.old.spool list →
             HasList D.Disk self.new.spool list }
         ensures stands { (st : Standing) → Stands D.Disk self.old.spool st → Stands D.Disk self.new.spool st }
     {
         self.spool.oldest(into)
+    }
+
+    /// Fills the buffer with a further slot of a message of the list, in which the body goes on at place 15: the one
+    /// of its first slot's head, and a part from 1 on, below the number of its slots.
+    pub fn part(&mut self, head: &SlotHead, part: u32, into: &mut [u8; SLOT_SIZE]) -> DiskAnswer
+        requires head { (s : Story) → D.told self.old.spool.disk ≡ Some s → IsListed s head.now }
+        requires from { 1 ≤ part }
+        requires to { part < slots_for head.now.len }
+        requires number { head.now.number ≤ 2 ^ 63 }
+        ensures looks { LooksOn D.Disk self.old.spool self.new.spool (head.now.number + part) into.new result }
+        ensures active { self.new.active ≡ self.old.active }
+        ensures list { (list : List Message) → HasList D.Disk self.old.spool list →
+            HasList D.Disk self.new.spool list }
+        ensures stands { (st : Standing) → Stands D.Disk self.old.spool st → Stands D.Disk self.new.spool st }
+    {
+        self.spool.part(head, part, into)
     }
 
     /// How many messages there are.
@@ -278,7 +302,8 @@ impl GemSpool<MemDisk> {
 
     /// How many calls are left up to the one at which the disk is to stop, itself counted, 0 for none.
     pub fn stops_in(&self) -> u32
-        ensures { result ≡ self.now.spool.disk.plan.stop_in }
+        ensures left { result ≡ self.now.spool.disk.plan.stop_in }
+        ensures fitted { HasFitted self.now.spool.disk }
     {
         self.spool.stops_in()
     }

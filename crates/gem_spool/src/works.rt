@@ -1,16 +1,16 @@
 //! Changes of the spool that were decided before the disk has them, carried out one after the other.
 
-ghost use Rattle.std.specs.Prelude.{◌≡◌, ◌<◌, ◌%◌, length};
+ghost use Rattle.std.specs.Prelude.{◌≡◌, ◌<◌, ◌%◌, [], ◌∷◌, length};
 ghost use Rattle.gem_spool.specs.Spool.{Stores, room_for};
 ghost use Rattle.gem_spool.specs.Standing.{count_of};
-ghost use Rattle.gem_spool.specs.Works.{AreDue, CarriesOut, Does, IsDue};
+ghost use Rattle.gem_spool.specs.Works.{AreDue, AreSizedOn, CarriesOut, Does, IsDue};
 ghost use Rattle.gem_spool.specs.declared.spool.Room.TheVariants.{Fits};
 ghost use Rattle.gem_spool.specs.declared.works.Work.TheVariants.{DropOldest};
 
 use crate::spool::GemSpool;
 use disk_base::Disk;
 use gl_base::Row;
-use spool_slots::{Spent, Stored};
+use spool_slots::{Dropping, Spent, Stored};
 
 /// A change of the list, which was decided before the disk has it.
 #[derive(Debug, Drop)]
@@ -40,9 +40,11 @@ pub struct Undone<D> {
 
 impl<D: Disk> GemSpool<D> {
     /// Carries works out, one after the other. Each of them has to have its message, or room, when its turn comes,
-    /// which the numbers alone decide. A crash finds the list that some first ones make.
+    /// which the numbers alone decide, and to free as many slots as the message takes that leaves. A crash finds the
+    /// list that some first ones make.
     pub fn carry_out(self, works: &[Work]) -> Result<GemSpool<D>, Undone<D>>
         requires due { AreDue (count_of self.spool) works.now }
+        requires sized { AreSizedOn D.Disk self.spool works.now }
         ensures { CarriesOut D.Disk self works.now result }
     {
         let mut spool = self;
@@ -58,6 +60,7 @@ impl<D: Disk> GemSpool<D> {
     // Carries one out.
     fn work(self, work: &Work) -> Result<GemSpool<D>, Spent<D>>
         requires due { IsDue (count_of self.spool) work.now }
+        requires sized { AreSizedOn D.Disk self.spool (work.now ∷ []) }
         ensures { Does D.Disk self work.now result }
     {
         match work {
@@ -93,13 +96,15 @@ impl<D: Disk> GemSpool<D> {
 
     // Takes the oldest message off, which frees so many slots.
     fn without_oldest(self, slots: u32) -> Result<GemSpool<D>, Spent<D>>
-        requires some { IsDue (count_of self.spool) (DropOldest slots) }
+        requires due { IsDue (count_of self.spool) (DropOldest slots) }
+        requires sized { AreSizedOn D.Disk self.spool (DropOldest slots ∷ []) }
         ensures { Does D.Disk self (DropOldest slots) result }
     {
-        let oldest = self.first();
-        match self.confirm(oldest) {
-            Ok((spool, _)) => Ok(spool),
-            Err(spent) => Err(spent),
+        let active = self.active;
+        match self.spool.drop_sized(slots) {
+            Ok(spool) => Ok(GemSpool { spool, active }),
+            Err(Dropping::Empty(spool)) => Ok(GemSpool { spool, active }),
+            Err(Dropping::Failed(spent)) => Err(spent),
         }
     }
 }

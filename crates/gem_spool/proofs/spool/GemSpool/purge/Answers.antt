@@ -11,5 +11,5 @@ returns-in-Ok-clause-list g c = clear_list g.D.Disk c.args.self.spool c.in-Ok.sp
 
 pub returns-in-Ok-clause-stands : goal.returns-in-Ok-clause-stands
 returns-in-Ok-clause-stands g c = λ st stands.
-    does_stands g.D.Disk c.args.self (record { spool = c.in-Ok.spool; active = c.args.self.active }) Purge st stands
+    does_stands g.D.Disk c.args.self (record { spool = c.in-Ok.spool; active = c.args.self.active }) Purge st stands tt
     (c.in-Ok.ensures, refl)

@@ -2,7 +2,7 @@
 
 use Rattle.std.proofs.Common.{Err, inl, inr, ap, refl, subst}
 use Rattle.disk_base.specs.declared.disk.DiskAnswer.TheVariants.{Failed}
-use Rattle.gem_spool.proofs.Putting.{has_put, not_full, put_done, stage_failed}
+use Rattle.gem_spool.proofs.Putting.{has_put, not_full, not_long, not_spent, put_done, stage_failed}
 use Rattle.spool_slots.specs.Changes.{Stages}
 use Rattle.spool_slots.specs.Spool.{SpoolView}
 use Rattle.spool_slots.specs.declared.states.Staging.{Staging}
@@ -39,6 +39,26 @@ returns-in-Err-Full g c =
     (Err e)) c.in-Err-Full.field-0-is
     c.in-Err-Full.ensures in
     absurd (not_full c.args.self.spool m.body.now c.requires.fits full.2)
+
+pub returns-in-Err-TooLong : goal.returns-in-Err-TooLong
+returns-in-Err-TooLong g c =
+    let m = c.args.message.now in
+    let long : Stages g.D.Disk c.args.self.spool m.stream m.function m.body.now
+    (Err (staging.TooLong c.in-Err-TooLong.spool)) =
+    subst (λ (e : Staging g.row.D.Denot). Stages g.D.Disk c.args.self.spool m.stream m.function m.body.now
+    (Err e)) c.in-Err-TooLong.field-0-is
+    c.in-Err-TooLong.ensures in
+    absurd (not_long c.args.self.spool m.body.now c.requires.fits long.1)
+
+pub returns-in-Err-NumbersSpent : goal.returns-in-Err-NumbersSpent
+returns-in-Err-NumbersSpent g c =
+    let m = c.args.message.now in
+    let spent : Stages g.D.Disk c.args.self.spool m.stream m.function m.body.now
+    (Err (staging.NumbersSpent c.in-Err-NumbersSpent.spool)) =
+    subst (λ (e : Staging g.row.D.Denot). Stages g.D.Disk c.args.self.spool m.stream m.function m.body.now
+    (Err e)) c.in-Err-NumbersSpent.field-0-is
+    c.in-Err-NumbersSpent.ensures in
+    absurd (not_spent c.args.self.spool m.body.now c.requires.fits spent.3)
 
 pub returns-in-Err-Failed : goal.returns-in-Err-Failed
 returns-in-Err-Failed g c =

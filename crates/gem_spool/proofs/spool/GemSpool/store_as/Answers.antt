@@ -15,4 +15,5 @@ returns-in-Ok-clause-list g c = λ list has.
 pub returns-in-Ok-clause-stands : goal.returns-in-Ok-clause-stands
 returns-in-Ok-clause-stands g c = λ st stands.
     let m = c.args.message.now in
-    does_stands g.D.Disk c.args.self c.in-Ok.spool (work.Put m.stream m.function m.body.now) st stands c.in-Ok.ensures
+    does_stands g.D.Disk c.args.self c.in-Ok.spool (work.Put m.stream m.function m.body.now) st stands tt
+    c.in-Ok.ensures
