@@ -1,6 +1,6 @@
 -- What a crash leaves where a planned call has stopped the disk in one of many works.
-use Rattle.std.proofs.Common.{◌≡◌, subst, arith, zero, suc, ◌+◌, ◌<◌, true, ℕ, List, [], ◌∷◌, ◌++◌, length, length-append}
-use Rattle.std.proofs.Common.{Some, Err}
+use Rattle.std.proofs.Common.{◌≡◌, subst, arith, zero, suc, ◌+◌, ◌<◌, true, ℕ, List, [], ◌∷◌, ◌++◌, length}
+use Rattle.std.proofs.Common.{length-append, Some, Err}
 use Rattle.disk_base.specs.Cut.{image_of}
 use Rattle.disk_base.specs.Story.{Story}
 use Rattle.disk_base.specs.declared.cut.CutChoice.{CutChoice}
@@ -8,7 +8,7 @@ use Rattle.disk_base.specs.declared.disk.Disk as disk
 use Rattle.gem_spool.specs.declared.spool.GemSpool.{GemSpool}
 use Rattle.gem_spool.specs.Updates.{Left}
 use Rattle.gem_spool.specs.Standing.{Standing}
-use Rattle.gem_spool.specs.Works.{Does, DoesAll, standing_after, standings_after}
+use Rattle.gem_spool.specs.Works.{AreSized, Does, DoesAll, standing_after, standings_after}
 use Rattle.gem_spool.specs.declared.works.Work.{Work}
 use Rattle.gem_spool.specs.declared.works.Work.TheVariants as work
 use Rattle.spool_file.specs.File.{StandsFor}
@@ -37,7 +37,7 @@ module _ {D : Type 0} (members : disk.Ghosts D) (spent : Spent D) (t : Story) (n
       put-left members g.spool st spent s t is.stands is.told new images is.goes stopped stream function body does.0
       does.1
   work-breaks g (work.DropOldest slots) st s is does =
-      drop-left members g.spool st spent s t is.stands is.told new images is.goes stopped does
+      drop-left members g.spool st spent s t is.stands is.told new images is.goes stopped slots does
   work-breaks g work.Purge st s is does =
       purge-left members g.spool st spent s t is.stands is.told new images is.goes stopped does
 
@@ -51,9 +51,9 @@ module _ {D : Type 0} (members : disk.Ghosts D) (spent : Spent D) (t : Story) (n
 
   pub works-break :
       (xs : List Work) (g before : GemSpool D) (one : Work) (st : Standing) (s : Story)
-      → IsOver members g.spool st s → DoesAll members g xs before → Does members before one (Err spent)
-      → HasPlace xs one st (members.health g.spool.disk).stop_in
-  works-break [] g before one st s is same fails =
+      → IsOver members g.spool st s → AreSized st.next st.file.list xs → DoesAll members g xs before
+      → Does members before one (Err spent) → HasPlace xs one st (members.health g.spool.disk).stop_in
+  works-break [] g before one st s is sized same fails =
       let at = work-breaks g one st s is (subst (λ (x : GemSpool D). Does members x one (Err spent)) same fails) in
       record {
         left = at.left;
@@ -62,9 +62,9 @@ module _ {D : Type 0} (members : disk.Ghosts D) (spent : Spent D) (t : Story) (n
         place = omega arith;
         at = at.at;
       }
-  works-break (x ∷ xs) g before one st s is (u, does, more) fails =
-      let comes = work-passes members g u x st s is does in
-      let at = works-break xs u before one (standing_after st x) comes.mid comes.over more fails in
+  works-break (x ∷ xs) g before one st s is sized (u, does, more) fails =
+      let comes = work-passes members g u x st s is sized.0 does in
+      let at = works-break xs u before one (standing_after st x) comes.mid comes.over sized.1 more fails in
       record {
         left = at.left;
         call = at.call;

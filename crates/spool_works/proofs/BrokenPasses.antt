@@ -9,7 +9,7 @@ use Rattle.gem_spool.proofs.Called.{does_makes}
 use Rattle.gem_spool.proofs.Doing.{does_stands}
 use Rattle.gem_spool.specs.declared.spool.GemSpool.{GemSpool}
 use Rattle.gem_spool.specs.Standing.{Standing, Stands}
-use Rattle.gem_spool.specs.Works.{Does, bytes_of, calls_of, standing_after}
+use Rattle.gem_spool.specs.Works.{Does, IsSized, bytes_of, calls_of, standing_after}
 use Rattle.gem_spool.specs.declared.works.Work.{Work}
 use Rattle.spool_slots.specs.Spool.{SpoolView}
 use Rattle.spool_works.specs.Breaking.{HasPassed, IsGoingDisk}
@@ -38,13 +38,14 @@ module _ {D : Type 0} (members : disk.Ghosts D) where
     pub passed : HasPassed (members.health v.disk) (members.health w.disk) calls
 
   pub work-passes :
-      (g h : GemSpool D) (one : Work) (st : Standing) (s : Story) → IsOver g.spool st s → Does members g one (Ok h)
+      (g h : GemSpool D) (one : Work) (st : Standing) (s : Story) → IsOver g.spool st s → IsSized st.file.list one
+      → Does members g one (Ok h)
       → HasComeTo g.spool h.spool (calls_of st one) (standing_after st one)
-  work-passes g h one st s is does =
+  work-passes g h one st s is sized does =
       let mid = does_amid members g h one st is.stands does s is.told in
       record {
         mid = mid.0;
-        over = record { stands = does_stands members g h one st is.stands does; told = mid.1; goes = passed.on };
+        over = record { stands = does_stands members g h one st is.stands sized does; told = mid.1; goes = passed.on };
         passed = passed;
       }
     where

@@ -1,7 +1,9 @@
 -- What a crash leaves where a planned call has stopped the disk in a put, at each of its calls.
-use Rattle.std.proofs.Common.{◌≡◌, ◌⊎◌, refl, sym, ap, subst, ◌∙◌, inl, inr, arith, nat_lt, nat_le, ◌+◌, ◌-◌, ◌<◌, ◌≤◌}
-use Rattle.std.proofs.Common.{Bool, true, false, ℕ, List, [], ◌∷◌, ◌++◌, length, Some, None, Ok, Err, if◌then◌else◌}
+use Rattle.std.proofs.Common.{◌≡◌, ◌⊎◌, refl, sym, ap, subst, ◌∙◌, inl, inr, arith, ◌+◌, ◌-◌, ◌<◌, Bool, true, false}
+use Rattle.std.proofs.Common.{ℕ, zero, suc, List, [], ◌∷◌, ◌++◌, length, length-append, map, nat_le, replicate, Some}
+use Rattle.std.proofs.Common.{Ok, Err}
 use Rattle.std.proofs.lemmas.Bool.Decides.{nat_tests}
+use Rattle.std.proofs.lemmas.List.{length-map}
 use Rattle.disk_base.specs.Calls.{DiskCall}
 use Rattle.disk_base.specs.Cut.{image_of}
 use Rattle.disk_base.specs.Faults.{DiskFault, DiskHealth, IsAmong, IsPlanned, IsUsed}
@@ -10,349 +12,371 @@ use Rattle.disk_base.specs.declared.cut.CutChoice.{CutChoice}
 use Rattle.disk_base.specs.declared.disk.Disk as disk
 use Rattle.disk_base.specs.declared.disk.DiskAnswer.TheVariants.{Failed}
 use Rattle.disk_base.proofs.Stretches.{lists_on}
-use Rattle.gem_spool.specs.Spool.{HasPut, StagesAndSeals, numbered, put_in, room_for}
+use Rattle.gem_spool.specs.Spool.{HasPut, StagesAndSeals, numbered, put_in}
 use Rattle.gem_spool.specs.Standing.{Standing, Stands}
-use Rattle.gem_spool.specs.Updates.{Left, behind_gate, by_gate, closing, gate_losses, stays}
-use Rattle.gem_spool.specs.Works.{is_stale, next_place, standing_after, unstale}
+use Rattle.gem_spool.specs.Updates.{Left, by_gate, by_gates, closing_losses, stays}
+use Rattle.gem_spool.specs.Works.{stale_gates, standing_after, unstale}
+use Rattle.gem_spool.specs.declared.count.Count.{Count}
 use Rattle.gem_spool.specs.declared.works.Work.TheVariants as work
-use Rattle.gem_spool.specs.declared.spool.Room.{Room}
-use Rattle.gem_spool.specs.declared.spool.Room.TheVariants as room
-use Rattle.gem_spool.specs.declared.spool.Room.TheVariants.{Fits}
-use Rattle.gem_spool.proofs.Amid.{not_stale}
-use Rattle.gem_spool.proofs.Doing.{next_is, put_file, same_file}
+use Rattle.gem_spool.proofs.Doing.{put_file, same_file}
 use Rattle.gem_spool.proofs.Putting.{sealed_is}
-use Rattle.spool_file.specs.File.{SpoolFile, StandsFor, file_in, is_open_at}
+use Rattle.spool_file.specs.File.{SpoolFile, StandsFor, file_in}
 use Rattle.spool_file.specs.Logs.{written_by}
-use Rattle.spool_file.specs.Slot.{slot_place}
-use Rattle.spool_slots.specs.Changes.{HasLostStage, HoldsThrough, IsSame, Seals, Stages, parts_of, sealed_in}
-use Rattle.spool_slots.specs.Changes.{shut_calls, shut_in, stage_calls, with_shut}
-use Rattle.spool_slots.specs.Losses.{IsSure, Leaves, closes, file_left, gate_counts, opens}
-use Rattle.spool_slots.specs.Spool.{SpoolView, next_slot}
+use Rattle.spool_file.specs.Sizes.{slots_for}
+use Rattle.spool_slots.specs.Calls.{gate_look, gate_looks, gate_shuts, part_calls, shut_calls, stage_calls, synced}
+use Rattle.spool_slots.specs.Changes.{HasLostStage, Seals, Stages, open_gates}
+use Rattle.spool_slots.specs.Files.{sealed_in, shut_in, with_gates, with_shut}
+use Rattle.spool_slots.specs.Losses.{IsSure, file_left, gate_counts, gates_left, opens, shut_marks}
+use Rattle.spool_slots.specs.Spool.{SpoolView, StagedView, next_slot}
 use Rattle.spool_slots.specs.declared.states.Spent.{Spent}
 use Rattle.message_end.specs.Ends.{call_of}
 use Rattle.spool_slots.proofs.Lost.{sure_stopped}
 use Rattle.spool_works.specs.Breaking.{HasLeftAt, IsGoingDisk, LeavesImages}
 use Rattle.spool_works.specs.DiskWorks.DiskWork.{Change}
 use Rattle.spool_works.specs.WorkLosses.{calls_at}
-use Rattle.spool_works.proofs.BrokenWorks.{by-cause, either-among, left-same, one-of-two, only-one, planned-stop, sure}
+use Rattle.spool_works.proofs.BrokenWorks.{any-same, by-cause, either-among, left-same, one-of-two, planned-stop, sure}
 use Rattle.spool_works.proofs.CallPlaces.{call-before, call-behind}
+use Rattle.spool_works.proofs.LossCounts.{closing-count}
 
 -- ---- the calls
 
--- one of two calls behind some and before others
-pair-at : (front rest : List Left) (k call : ℕ) (left : Left) → length front + k ≡ call → IsAmong k 2
-    → call_of call (front ++ (left ∷ left ∷ rest)) ≡ Some left
-pair-at front rest k call left place among =
-    subst (λ (c : ℕ). call_of c (front ++ (left ∷ left ∷ rest)) ≡ Some left) place
-    (call-behind front (left ∷ left ∷ rest) k left
-    (call-before (left ∷ left ∷ []) rest k left (one-of-two k left among)))
+looks-long : (slots number n : ℕ) → length (gate_looks slots number n) ≡ n
+looks-long slots number zero = refl
+looks-long slots number (suc n) =
+    let both = length-append (gate_looks slots number n) (gate_look slots (number + n)) in
+    let before = looks-long slots number n in
+    omega (arith, both, before)
 
 -- one that isn't among so many comes behind them
-behind : (stop calls : ℕ) → 0 < stop → (IsAmong stop calls → ⊥) → calls < stop
-behind stop calls some none = go (nat_le stop calls) refl
+past-all : (stop calls : ℕ) → 0 < stop → (IsAmong stop calls → ⊥) → calls < stop
+past-all stop calls some none = go (nat_le stop calls) refl
   where
     go : (within : Bool) → nat_le stop calls ≡ within → calls < stop
     go true e = absurd (none (some, grind (arith, nat_tests, e)))
     go false e = grind (arith, nat_tests, e)
 
--- those of a put: a stale gate is closed by two of them
-abbrev looks : Bool → Standing → List Left
-looks true st = stays st ∷ by_gate closes (unstale st) st ∷ by_gate closes (unstale st) st ∷ []
-looks false st = stays st ∷ []
+-- where gates are closed, so many of them are marked at each call
+closing-at : (st : Standing) (marks : ℕ → List Bool) (m : ℕ) (calls : List DiskCall) (call : ℕ)
+    → IsAmong call (length calls)
+    → call_of call (closing_losses st marks m calls) ≡ Some (by_gates (marks (m + call)) st)
+closing-at st marks m calls zero among = absurd (let some = among.0 in omega (arith, some))
+closing-at st marks m [] (suc n) among = absurd (let most = among.1 in omega (arith, most))
+closing-at st marks m (one ∷ calls) (suc zero) among = refl
+closing-at st marks m (one ∷ calls) (suc (suc n)) among =
+    let same : m + 1 + suc n ≡ m + suc (suc n) = omega arith in
+    let most = among.1 in
+    subst (λ (k : ℕ). call_of (suc n) (closing_losses st marks (m + 1) calls) ≡ Some (by_gates (marks k) st)) same
+    (closing-at st marks (m + 1) calls (suc n) (omega arith, omega (arith, most)))
 
-abbrev looked : Bool → Standing → Standing
-looked true st = unstale st
-looked false st = st
+module _ (st : Standing) (stream function : ℕ) (body : List ℕ) where
+  abbrev size : ℕ
+  size = slots_for (length body)
 
-abbrev put_losses : Bool → Standing → Standing → List Left
-put_losses stale done st =
-    looks stale st
-    ++ (stays (looked stale st)
-    ∷ stays (looked stale st)
-    ∷ by_gate opens done (looked stale st)
-    ∷ by_gate opens done (looked stale st)
-    ∷ [])
+  abbrev stale : List Bool
+  stale = stale_gates st size
 
-put-losses : (st : Standing) (stream function : ℕ) (body : List ℕ) (stale : Bool) → is_stale st ≡ stale
-    → calls_at st (Change (work.Put stream function body))
-    ≡ put_losses stale (standing_after st (work.Put stream function body)) st
-put-losses st stream function body stale is = all (is_stale st) ∙ ap (λ (b : Bool). put_losses b done st) is
-  where
-    done : Standing
-    done = standing_after st (work.Put stream function body)
+  abbrev done : Standing
+  done = standing_after st (work.Put stream function body)
 
-    all : (b : Bool)
-        → stays st
-        ∷ (gate_losses st (if b then Some (closing (next_place st) (unstale st)) else None)
-        ++ stays (behind_gate st (if b then Some (closing (next_place st) (unstale st)) else None))
-        ∷ stays (behind_gate st (if b then Some (closing (next_place st) (unstale st)) else None))
-        ∷ by_gate opens done (behind_gate st (if b then Some (closing (next_place st) (unstale st)) else None))
-        ∷ by_gate opens done (behind_gate st (if b then Some (closing (next_place st) (unstale st)) else None))
-        ∷ [])
-        ≡ put_losses b done st
-    all true = refl
-    all false = refl
+  abbrev shuts : List DiskCall
+  shuts = synced (gate_shuts st.file.slots st.next stale)
 
-looked-file : (st : Standing) (stale : Bool) → is_stale st ≡ stale → (looked stale st).file ≡ with_shut st.next st.file
-looked-file st true is = refl
-looked-file st false is = not_stale st is
+  abbrev parts : List DiskCall
+  parts = part_calls st.file.slots st.next stream function body
+
+  abbrev marks : ℕ → List Bool
+  marks m = shut_marks st.file.slots st.next stale m (replicate st.file.slots false)
+
+  abbrev gate : Left
+  gate = by_gate opens done (unstale st size)
+
+  abbrev calls : List Left
+  calls = calls_at st (Change (work.Put stream function body))
+
+  -- those of each kind
+  abbrev looked : List Left
+  looked = map (λ call. stays st) (gate_looks st.file.slots st.next size)
+
+  abbrev shut : List Left
+  shut = closing_losses st marks 0 shuts
+
+  abbrev written : List Left
+  written = map (λ call. stays (unstale st size)) parts
+
+  looked-long : length looked ≡ size
+  looked-long =
+      length-map (gate_looks st.file.slots st.next size) (λ (call : DiskCall). stays st)
+      ∙ looks-long st.file.slots st.next size
+
+  before-long : length (looked ++ shut) ≡ size + length shuts
+  before-long =
+      let both = length-append looked shut in
+      let looks = looked-long in
+      let closing = closing-count st marks 0 shuts in
+      omega (arith, both, looks, closing)
+
+  written-long : length written ≡ length parts
+  written-long = length-map parts (λ (call : DiskCall). stays (unstale st size))
+
+  at-look : (k : ℕ) → IsAmong k size → call_of k calls ≡ Some (stays st)
+  at-look k among =
+      let looks = looks-long st.file.slots st.next size in
+      let most = among.1 in
+      call-before (looked ++ shut) ((written ++ gate ∷ gate ∷ []) ++ []) k (stays st)
+      (call-before looked shut k (stays st)
+      (any-same (stays st) (gate_looks st.file.slots st.next size) k (among.0, omega (arith, most, looks))))
+
+  at-shut : (m : ℕ) → IsAmong m (length shuts) → call_of (size + m) calls ≡ Some (by_gates (marks m) st)
+  at-shut m among =
+      call-before (looked ++ shut) ((written ++ gate ∷ gate ∷ []) ++ []) (size + m) (by_gates (marks m) st)
+      (subst (λ (n : ℕ). call_of (n + m) (looked ++ shut) ≡ Some (by_gates (marks m) st)) looked-long
+      (call-behind looked shut m (by_gates (marks m) st)
+      (let same : 0 + m ≡ m = omega arith in
+      subst (λ (k : ℕ). call_of m shut ≡ Some (by_gates (marks k) st)) same (closing-at st marks 0 shuts m among))))
+
+  behind-shut : (k : ℕ) (left : Left) → call_of k (written ++ gate ∷ gate ∷ []) ≡ Some left
+      → call_of (size + length shuts + k) calls ≡ Some left
+  behind-shut k left is =
+      subst (λ (n : ℕ). call_of (n + k) calls ≡ Some left) before-long
+      (call-behind (looked ++ shut) ((written ++ gate ∷ gate ∷ []) ++ []) k left
+      (call-before (written ++ gate ∷ gate ∷ []) [] k left is))
+
+  at-part : (k : ℕ) → IsAmong k (length parts)
+      → call_of (size + length shuts + k) calls ≡ Some (stays (unstale st size))
+  at-part k among =
+      behind-shut k (stays (unstale st size))
+      (call-before written (gate ∷ gate ∷ []) k (stays (unstale st size))
+      (any-same (stays (unstale st size)) parts k among))
+
+  at-gate : (k : ℕ) → IsAmong k 2 → call_of (size + length shuts + (length parts + k)) calls ≡ Some gate
+  at-gate k among =
+      behind-shut (length parts + k) gate
+      (subst (λ (n : ℕ). call_of (n + k) (written ++ gate ∷ gate ∷ []) ≡ Some gate) written-long
+      (call-behind written (gate ∷ gate ∷ []) k gate (one-of-two k gate among)))
 
 module _ {D : Type 0} (members : disk.Ghosts D) (v : SpoolView D) (st : Standing) (spent : Spent D) (s t : Story)
     (is : Stands members v st) (old : members.told v.disk ≡ Some s) (new : members.told spent.disk ≡ Some t)
     (images : LeavesImages t) (goes : IsGoingDisk (members.health v.disk))
-    (stopped : (members.health spent.disk).stopped ≡ true) (stream function : ℕ) (body : List ℕ) (short : length body ≤ 4081)
+    (stopped : (members.health spent.disk).stopped ≡ true) (stream function : ℕ) (body : List ℕ)
   where
     abbrev health : DiskHealth
     health = members.health v.disk
 
-    abbrev done : Standing
-    done = standing_after st (work.Put stream function body)
+    abbrev stop : ℕ
+    stop = health.stop_in
 
-    abbrev parts : List ℕ
-    parts = parts_of v.next stream function body
+    abbrev n : ℕ
+    n = slots_for (length body)
 
-    abbrev staged_calls : Bool → List DiskCall
-    staged_calls stale = stage_calls stale (slot_place (next_slot v)) parts
+    abbrev gates : List Bool
+    gates = stale_gates st n
 
-    long : length parts ≡ length body + 14
-    long = omega arith
+    abbrev closing : List DiskCall
+    closing = synced (gate_shuts st.file.slots st.next gates)
 
-    -- whether the gate is stale in the file is whether it is in the bytes
-    stale-is : is_open_at v.next (file_in s.now.bytes) ≡ is_stale st
-    stale-is =
-        ap (is_open_at v.next) (sym (same_file members v st is s old))
-        ∙ ap (λ (n : ℕ). is_open_at n st.file) (next_is members v st is)
+    abbrev writing : List DiskCall
+    writing = part_calls st.file.slots st.next stream function body
 
-    shut-is : shut_in v.next s.now.bytes ≡ with_shut st.next st.file
-    shut-is =
-        ap (with_shut v.next) (sym (same_file members v st is s old))
-        ∙ ap (λ (n : ℕ). with_shut n st.file) (next_is members v st is)
+    abbrev staging : List Bool → List DiskCall
+    staging open_gates = stage_calls v.slots v.next open_gates stream function body
 
-    planned : (calls : ℕ) → IsPlanned health calls → IsAmong health.stop_in calls
+    file-is : st.file ≡ file_in s.now.bytes
+    file-is = same_file members v st is s old
+
+    -- which gates are open in the bytes is which are so in the file
+    gates-are : open_gates v.next n (file_in s.now.bytes) ≡ gates
+    gates-are =
+        ap (open_gates v.next n) (sym file-is) ∙ ap (λ (c : Count). open_gates c.next n st.file) is.count
+
+    shut-is : shut_in v.next n s.now.bytes ≡ (unstale st n).file
+    shut-is = ap (with_shut v.next n) (sym file-is) ∙ ap (λ (c : Count). with_shut c.next n st.file) is.count
+
+    marked-is : (choice : CutChoice) (m : ℕ)
+        → with_gates
+        (gates_left choice (shut_marks v.slots v.next gates m (replicate v.slots false)) (file_in s.now.bytes).gates)
+        (file_in s.now.bytes)
+        ≡ by_gates (marks st stream function body m) st choice
+    marked-is choice m =
+        ap
+        (λ (c : Count). with_gates
+        (gates_left choice (shut_marks c.slots c.next gates m (replicate c.slots false)) (file_in s.now.bytes).gates)
+        (file_in s.now.bytes)) is.count
+        ∙ ap (λ (f : SpoolFile). with_gates (gates_left choice (marks st stream function body m) f.gates) f)
+        (sym file-is)
+
+    -- how many calls there are up to the parts, and up to the gate
+    shut-long : length gates ≡ n → length (shut_calls v.slots v.next gates) ≡ n + length closing
+    shut-long long =
+        ap (λ (c : Count). length (shut_calls c.slots c.next gates)) is.count
+        ∙ (let both = length-append (gate_looks st.file.slots st.next (length gates)) closing in
+        let looks = looks-long st.file.slots st.next (length gates) in
+        omega (arith, both, looks, long))
+
+    stage-long : length gates ≡ n → length (staging gates) ≡ n + length closing + length writing
+    stage-long long =
+        let both = length-append (shut_calls v.slots v.next gates) (part_calls v.slots v.next stream function body) in
+        let same : length (part_calls v.slots v.next stream function body) ≡ length writing =
+        ap (λ (c : Count). length (part_calls c.slots c.next stream function body)) is.count in
+        let shuts = shut-long long in
+        omega (arith, both, same, shuts)
+
+    are-long : HasPut members v stream function body spent.disk Failed → length gates ≡ n
+    are-long put = ap length (sym (put.stale_is s old ∙ gates-are)) ∙ put.long
+
+    planned : (calls : ℕ) → IsPlanned health calls → IsAmong stop calls
     planned calls = planned-stop members v st spent s t is old new images goes stopped calls
 
     fits : (calls n : ℕ) → IsSure health (members.health spent.disk) calls n
     fits = sure members v st spent s t is old new images goes stopped
 
-    abbrev At : Bool → Type 0
-    At stale = HasLeftAt (put_losses stale done st) health.stop_in t
-
-    early-left : (stale : Bool) → HoldsThrough (members.told v.disk) (members.told spent.disk) IsSame
-        → IsAmong health.stop_in 1 → (rest : List Left) → put_losses stale done st ≡ stays st ∷ rest → At stale
-    early-left stale holds early rest all = record {
-      left = stays st;
-      is =
-          subst (λ (calls : List Left). call_of health.stop_in calls ≡ Some (stays st)) (sym all)
-          (call-before (stays st ∷ []) rest health.stop_in (stays st) (only-one health.stop_in (stays st) early));
-      at = left-same members v st spent s t is old new images goes stopped holds;
-    }
-
-    -- what is left where the gate is shut by then
-    left-shut : (stale : Bool) → is_stale st ≡ stale
-        → Leaves (members.told v.disk) (members.told spent.disk) (shut_in v.next) → (choice : CutChoice)
-        → StandsFor (image_of choice t) (looked stale st).file
-    left-shut stale so leaves choice =
-        subst (StandsFor (image_of choice t)) (shut-is ∙ sym (looked-file st stale so))
-        (leaves s t old new (image_of choice t) (images choice))
+    abbrev At : Type 0
+    At = HasLeftAt (calls_at st (Change (work.Put stream function body))) stop t
 
     -- ---- the stage has failed
 
-    stage-at :
-        (stale : Bool) → is_stale st ≡ stale
-        → HasLostStage members v spent.disk (length (shut_calls stale (slot_place (next_slot v))))
-        (length (staged_calls stale)) (written_by (staged_calls stale))
-        → DiskFault health (members.health spent.disk) (length (staged_calls stale))
-        (health.room < written_by (staged_calls stale))
-        → At stale
-    stage-at true so lost fault = go (either-among health.stop_in 1) (either-among health.stop_in 3)
-      where
-        among : IsAmong health.stop_in 5
-        among =
-            by-cause members v st spent s t is old new images goes stopped 5 _ fault
+    module _ (long : length gates ≡ n) (lost : HasLostStage members v spent.disk gates (staging gates)) where
+      looks-left : IsAmong stop n → At
+      looks-left early = record {
+        left = stays st;
+        is = at-look st stream function body stop early;
+        at =
+            let most = early.1 in
+            left-same members v st spent s t is old new images goes stopped
+            (lost.early (inr (inl (early.0, omega (arith, most, long)))));
+      }
 
-        some : 0 < health.stop_in
-        some = among.0
+      shut-left : n < stop → IsAmong stop (n + length closing) → At
+      shut-left past among = record {
+        left = by_gates (marks st stream function body (stop - n)) st;
+        is =
+            let here : n + (stop - n) ≡ stop = omega (arith, past) in
+            let most = among.1 in
+            subst
+            (λ (k : ℕ).
+            call_of k (calls_at st (Change (work.Put stream function body)))
+            ≡ Some (by_gates (marks st stream function body (stop - n)) st)) here
+            (at-shut st stream function body (stop - n) (omega (arith, past), omega (arith, past, most)));
+        at = λ choice.
+            let most = among.1 in
+            let shuts = shut-long long in
+            subst (StandsFor (image_of choice t)) (marked-is choice (stop - n))
+            (lost.shutting (stop - n) (omega (arith, past, most, shuts, long)) (fits _ _)
+            (inr (inl (among.0, omega (arith, past, long))))
+            (λ before. let far = (planned (length gates + (stop - n - 1)) before).1 in omega (arith, past, long, far))
+            s t old new choice);
+      }
 
-        most : health.stop_in ≤ 5
-        most = among.1
+      parts-left : n + length closing < stop → IsAmong stop (n + length closing + length writing) → At
+      parts-left past among = record {
+        left = stays (unstale st n);
+        is =
+            let here : n + length closing + (stop - (n + length closing)) ≡ stop = omega (arith, past) in
+            let most = among.1 in
+            subst
+            (λ (k : ℕ).
+            call_of k (calls_at st (Change (work.Put stream function body))) ≡ Some (stays (unstale st n))) here
+            (at-part st stream function body (stop - (n + length closing))
+            (omega (arith, past), omega (arith, past, most)));
+        at = λ choice.
+            let shuts = shut-long long in
+            subst (StandsFor (image_of choice t))
+            (ap (λ (k : ℕ). shut_in v.next k s.now.bytes) long ∙ shut-is)
+            (lost.late (fits _ _)
+            (λ before. let far = (planned (length (shut_calls v.slots v.next gates)) before).1 in
+            omega (arith, past, shuts, far)) s t old new (image_of choice t) (images choice));
+      }
 
-        gate : Left
-        gate = by_gate closes (unstale st) st
-
-        go : IsAmong health.stop_in 1 ⊎ (IsAmong health.stop_in 1 → ⊥)
-            → IsAmong health.stop_in 3 ⊎ (IsAmong health.stop_in 3 → ⊥) → At true
-        go (inl early) closing = early-left true (lost.early (inr (inl early))) early _ refl
-        go (inr late) (inl closing) = record {
-          left = gate;
-          is =
-              let past = behind health.stop_in 1 some late in
-              let within = closing.1 in
-              pair-at (stays st ∷ []) _ (health.stop_in - 1) health.stop_in gate (omega (arith, past))
-              (omega (arith, past), omega (arith, within));
-          at = λ choice.
-              subst (λ (f : SpoolFile). StandsFor (image_of choice t) (file_left (gate_counts choice closes) f st.file))
-              shut-is
-              (subst (λ (f : SpoolFile).
-              StandsFor (image_of choice t) (file_left (gate_counts choice closes) (shut_in v.next s.now.bytes) f))
-              (sym (same_file members v st is s old))
-              (lost.shutting (fits 3 1) (λ is. late (planned 1 is)) (inr (inl closing)) s t
-              old new choice));
-        }
-        go (inr late) (inr closed) = record {
-          left = stays (unstale st);
-          is =
-              let past = behind health.stop_in 3 some closed in
-              pair-at (looks true st) _ (health.stop_in - 3) health.stop_in (stays (unstale st)) (omega (arith, past))
-              (omega (arith, past), omega (arith, most));
-          at = left-shut true so
-              (lost.late (fits 5 (written_by (staged_calls true)))
-              (λ is. closed (planned 3 is)));
-        }
-    stage-at false so lost fault = go (either-among health.stop_in 1)
-      where
-        among : IsAmong health.stop_in 3
-        among =
-            by-cause members v st spent s t is old new images goes stopped 3 _ fault
-
-        some : 0 < health.stop_in
-        some = among.0
-
-        most : health.stop_in ≤ 3
-        most = among.1
-
-        go : IsAmong health.stop_in 1 ⊎ (IsAmong health.stop_in 1 → ⊥) → At false
-        go (inl early) = early-left false (lost.early (inr (inl early))) early _ refl
-        go (inr late) = record {
-          left = stays st;
-          is =
-              let past = behind health.stop_in 1 some late in
-              pair-at (stays st ∷ []) _ (health.stop_in - 1) health.stop_in (stays st) (omega (arith, past))
-              (omega (arith, past), omega (arith, most));
-          at = left-shut false so
-              (lost.late (fits 3 (written_by (staged_calls false)))
-              (λ is. late (planned 1 is)));
-        }
+      stage-left : IsAmong stop (n + length closing + length writing) → At
+      stage-left among = go (either-among stop n) (either-among stop (n + length closing))
+        where
+          go : IsAmong stop n ⊎ (IsAmong stop n → ⊥)
+              → IsAmong stop (n + length closing) ⊎ (IsAmong stop (n + length closing) → ⊥) → At
+          go (inl early) second = looks-left early
+          go (inr late) (inl second) = shut-left (past-all stop n among.0 late) second
+          go (inr late) (inr last) = parts-left (past-all stop (n + length closing) among.0 last) among
 
     -- ---- the gate has
 
-    module _ (u : SpoolView D) (staged : Stages members v stream function body (Ok u))
-        (seals : Seals members u (Err spent)) (room : room_for v (length body) ≡ Fits) where
-      seal-at :
-          (stale : Bool) → is_stale st ≡ stale
-          → IsUsed health (members.health u.disk) (length (staged_calls stale)) (written_by (staged_calls stale))
-          → At stale
-      seal-at stale so used = record {
-        left = gate;
-        is = place stale refl;
-        at = λ choice.
-            subst (λ (f : SpoolFile).
-            StandsFor (image_of choice t) (file_left (gate_counts choice opens) f (looked stale st).file))
-            (eqs.1 ∙ put_file members v st stream function body is s old)
-            (subst (λ (f : SpoolFile).
-            StandsFor (image_of choice t)
-            (file_left (gate_counts choice opens) (sealed_in (next_slot u) mid.0.now.bytes) f))
-            (sym eqs.0 ∙ shut-is ∙ sym (looked-file st stale so)) (seals.1 rest mid.0 t mid.1 new choice));
-      }
-        where
-          gate : Left
-          gate = by_gate opens done (looked stale st)
+    module _ (long : length gates ≡ n) (u : StagedView D) (staged : Stages members v stream function body (Ok u))
+        (seals : Seals members u (Err spent)) (put : HasPut members v stream function body spent.disk Failed)
+        (used : IsUsed health (members.health u.spool.disk) (length (staging gates)) (written_by (staging gates)))
+      where
+        mid : (m : Story) × (members.told u.spool.disk ≡ Some m)
+        mid = let all = staged.0.images s old in (all.0, all.1)
 
-          mid : (m : Story) × (members.told u.disk ≡ Some m)
-          mid = let all = staged.0.images s old in (all.0, all.1)
+        eqs : (shut_in v.next n s.now.bytes ≡ file_in mid.0.now.bytes)
+            × (sealed_in (next_slot u.spool) mid.0.now.bytes ≡ put_in (numbered v stream function body) s.now.bytes)
+        eqs = sealed_is members v stream function body put.fits u staged s mid.0 old mid.1
 
-          eqs : (shut_in v.next s.now.bytes ≡ file_in mid.0.now.bytes)
-              × (sealed_in (next_slot u) mid.0.now.bytes ≡ put_in (numbered v stream function body) s.now.bytes)
-          eqs = sealed_is members v stream function body room u staged s mid.0 old mid.1
+        rest : IsSure (members.health u.spool.disk) (members.health spent.disk) 2 1
+        rest =
+            sure_stopped (members.health u.spool.disk) (members.health spent.disk)
+            (lists_on health (members.health u.spool.disk) _ _ used goes.going) stopped 2 1
 
-          rest : IsSure (members.health u.disk) (members.health spent.disk) 2 1
-          rest =
-              sure_stopped (members.health u.disk) (members.health spent.disk)
-              (lists_on health (members.health u.disk) _ _ used goes.going) stopped 2 1
+        behind-stage : IsAmong stop (length (staging gates) + 2)
+        behind-stage = at (seals.0.disk.cause.stops stopped)
+          where
+            on : (members.health u.spool.disk).stopped ≡ true → health.stopped ≡ false → ⊥
+            on now before = let going = used.going in cc
 
-          among : IsAmong health.stop_in (length (staged_calls stale) + 2)
-          among = at (seals.0.disk.cause.stops stopped)
-            where
-              on : (members.health u.disk).stopped ≡ true → health.stopped ≡ false → ⊥
-              on now before = let going = used.going in cc
+            at : ((members.health u.spool.disk).stopped ≡ true)
+                ⊎ ((members.health u.spool.disk).stop_in ≡ seals.0.disk.cause.made + 1)
+                → IsAmong stop (length (staging gates) + 2)
+            at (inl now) = absurd (on now goes.going.on)
+            at (inr here) =
+                let left = used.stop_left in
+                let few = seals.0.disk.cause.few in
+                (omega (arith, here, left), omega (arith, here, left, few))
 
-              at : ((members.health u.disk).stopped ≡ true)
-                  ⊎ ((members.health u.disk).stop_in ≡ seals.0.disk.cause.made + 1)
-                  → IsAmong health.stop_in (length (staged_calls stale) + 2)
-              at (inl now) = absurd (on now goes.going.on)
-              at (inr here) =
-                  let left = used.stop_left in
-                  let few = seals.0.disk.cause.few in
-                  (omega (arith, here, left), omega (arith, here, left, few))
+        gate-left : At
+        gate-left = record {
+          left = gate st stream function body;
+          is =
+              let past =
+              past-all stop (length (staging gates)) behind-stage.0 (λ early. used.unplanned (inr (inl early))) in
+              let all = stage-long long in
+              let most = behind-stage.1 in
+              let here :
+              n + length closing + (length writing + (stop - (n + length closing + length writing))) ≡ stop =
+              omega (arith, past, all) in
+              subst
+              (λ (k : ℕ).
+              call_of k (calls_at st (Change (work.Put stream function body))) ≡ Some (gate st stream function body))
+              here
+              (at-gate st stream function body (stop - (n + length closing + length writing))
+              (omega (arith, past, all), omega (arith, past, all, most)));
+          at = λ choice.
+              subst
+              (λ (f : SpoolFile).
+              StandsFor (image_of choice t) (file_left (gate_counts choice opens) f (unstale st n).file))
+              (eqs.1 ∙ put_file members v st stream function body is s old)
+              (subst
+              (λ (f : SpoolFile).
+              StandsFor (image_of choice t)
+              (file_left (gate_counts choice opens) (sealed_in (next_slot u.spool) mid.0.now.bytes) f))
+              (sym eqs.0 ∙ shut-is) (seals.1 rest mid.0 t mid.1 new choice));
+        }
 
-          past : length (staged_calls stale) < health.stop_in
-          past = behind health.stop_in (length (staged_calls stale)) among.0 (λ is. used.unplanned (inr (inl is)))
+    -- ---- whichever has
 
-          place : (b : Bool) → stale ≡ b → call_of health.stop_in (put_losses stale done st) ≡ Some gate
-          place b same =
-              subst (λ (c : Bool).
-              call_of health.stop_in (put_losses c done st) ≡ Some (by_gate opens done (looked c st))) (sym same)
-              (each b (subst (λ (c : Bool). length (staged_calls c) < health.stop_in) same past)
-              (subst (λ (c : Bool). IsAmong health.stop_in (length (staged_calls c) + 2)) same among))
-            where
-              each : (c : Bool) → length (staged_calls c) < health.stop_in
-                  → IsAmong health.stop_in (length (staged_calls c) + 2)
-                  → call_of health.stop_in (put_losses c done st) ≡ Some (by_gate opens done (looked c st))
-              each true past among =
-                  let most = among.1 in
-                  pair-at (looks true st ++ stays (unstale st) ∷ stays (unstale st) ∷ []) [] (health.stop_in - 5)
-                  health.stop_in (by_gate opens done (unstale st)) (omega (arith, past))
-                  (omega (arith, past), omega (arith, most))
-              each false past among =
-                  let most = among.1 in
-                  pair-at (looks false st ++ stays st ∷ stays st ∷ []) [] (health.stop_in - 3) health.stop_in
-                  (by_gate opens done st) (omega (arith, past)) (omega (arith, past), omega (arith, most))
-
-module _ {D : Type 0} (members : disk.Ghosts D) (v : SpoolView D) (st : Standing) (spent : Spent D) (s t : Story)
-    (is : Stands members v st) (old : members.told v.disk ≡ Some s) (new : members.told spent.disk ≡ Some t)
-    (images : LeavesImages t) (goes : IsGoingDisk (members.health v.disk))
-    (stopped : (members.health spent.disk).stopped ≡ true) where
-  pub put-left :
-      (stream function : ℕ) (body : List ℕ) → HasPut members v stream function body spent.disk Failed
-      → StagesAndSeals members v stream function body (Err spent)
-      → HasLeftAt (calls_at st (Change (work.Put stream function body))) (members.health v.disk).stop_in t
-  put-left stream function body put stages =
-      subst (λ (calls : List Left). HasLeftAt calls (members.health v.disk).stop_in t)
-      (sym (put-losses st stream function body (is_stale st) refl)) (go stages)
-    where
-      fits-short : (long : Bool) (rest : Room) → (if long then room.TooLong else rest) ≡ room.Fits → long ≡ false
-      fits-short true rest same = absurd (cc)
-      fits-short false rest same = refl
-
-      short : length body ≤ 4081
-      short =
-          let fits : nat_lt 4081 (length body) ≡ false = fits-short (nat_lt 4081 (length body)) _ put.fits in
-          grind (arith, nat_tests, fits)
-
-      same : is_open_at v.next (file_in s.now.bytes) ≡ is_stale st
-      same = stale-is members v st spent s t is old new images goes stopped stream function body short
-
-      go : StagesAndSeals members v stream function body (Err spent)
-          → HasLeftAt
-          (put_losses (is_stale st) (standing_after st (work.Put stream function body)) st)
-          (members.health v.disk).stop_in t
-      go (inl failed) =
-          stage-at members v st spent s t is old new images goes stopped stream function body short (is_stale st) refl
-          (subst (λ (b : Bool).
-          HasLostStage members v spent.disk (length (shut_calls b (slot_place (next_slot v))))
-          (length (stage_calls b (slot_place (next_slot v)) (parts_of v.next stream function body)))
-          (written_by (stage_calls b (slot_place (next_slot v)) (parts_of v.next stream function body)))) same
-          (failed.1 s old))
-          (subst (λ (b : Bool).
-          DiskFault (members.health v.disk) (members.health spent.disk)
-          (length (stage_calls b (slot_place (next_slot v)) (parts_of v.next stream function body)))
-          ((members.health v.disk).room
-          < written_by (stage_calls b (slot_place (next_slot v)) (parts_of v.next stream function body))))
-          (failed.0.stale_is s old ∙ same) failed.0.calls.cause)
-      go (inr (u, staged, seals)) =
-          seal-at members v st spent s t is old new images goes stopped stream function body short u staged seals put.fits
-          (is_stale st) refl
-          (subst (λ (b : Bool).
-          IsUsed (members.health v.disk) (members.health u.disk)
-          (length (stage_calls b (slot_place (next_slot v)) (parts_of v.next stream function body)))
-          (written_by (stage_calls b (slot_place (next_slot v)) (parts_of v.next stream function body))))
-          (staged.0.stale_is s old ∙ same) staged.0.calls.cause)
+    pub put-left : HasPut members v stream function body spent.disk Failed
+        → StagesAndSeals members v stream function body (Err spent) → At
+    put-left put (inl (failed, loses)) =
+        stage-left (are-long put)
+        (subst (λ (open_gates : List Bool). HasLostStage members v spent.disk open_gates (staging open_gates)) gates-are
+        (loses s old))
+        (let all = stage-long (are-long put) in
+        let among =
+        by-cause members v st spent s t is old new images goes stopped (length (staging gates)) _
+        (subst
+        (λ (open_gates : List Bool).
+        DiskFault health (members.health spent.disk) (length (staging open_gates))
+        (health.room < written_by (staging open_gates))) (failed.stale_is s old ∙ gates-are) failed.made.calls.cause) in
+        let most = among.1 in
+        (among.0, omega (arith, all, most)))
+    put-left put (inr (u, staged, seals)) =
+        gate-left (are-long put) u staged seals put
+        (subst
+        (λ (open_gates : List Bool).
+        IsUsed health (members.health u.spool.disk) (length (staging open_gates)) (written_by (staging open_gates)))
+        (staged.0.stale_is s old ∙ gates-are) staged.0.made.calls.cause)

@@ -1,7 +1,8 @@
 -- What a crash leaves where a planned call has stopped the disk in a work of the spool, at each of its calls.
 use Rattle.std.proofs.Common.{◌≡◌, ◌⊎◌, refl, sym, ap, subst, ◌∙◌, inl, inr, arith, nat_lt, nat_le, zero, suc, ◌+◌, ◌<◌}
-use Rattle.std.proofs.Common.{◌≤◌, Bool, true, false, ℕ, List, [], ◌∷◌, length, Some, Err}
+use Rattle.std.proofs.Common.{Bool, true, false, ℕ, List, [], ◌∷◌, ◌++◌, length, map, Some, Err}
 use Rattle.std.proofs.lemmas.Bool.Decides.{nat_tests}
+use Rattle.disk_base.specs.Calls.{DiskCall}
 use Rattle.disk_base.specs.Cut.{image_of}
 use Rattle.disk_base.specs.Faults.{DiskFault, DiskHealth, IsAmong, IsPlanned}
 use Rattle.disk_base.specs.Story.{Story}
@@ -11,17 +12,19 @@ use Rattle.disk_base.specs.declared.disk.Disk as disk
 use Rattle.disk_base.specs.declared.disk.DiskAnswer.TheVariants.{Failed}
 use Rattle.disk_base.proofs.Moments.{only_now}
 use Rattle.gate_cell.specs.Cell.{Cell, cell_in}
-use Rattle.gem_spool.specs.Standing.{Standing, Stands}
+use Rattle.gem_spool.specs.Oldest.{HasReadSlots, oldest_looks, slot_looks}
+use Rattle.gem_spool.specs.Standing.{Standing, Stands, count_in}
 use Rattle.gem_spool.specs.Updates.{Left, Update, by_gate, cell_update, losses_in, stays}
-use Rattle.gem_spool.specs.Works.{floor_above, reserved, standing_after}
+use Rattle.gem_spool.specs.Works.{floor_above, oldest_in, reserved, standing_after}
 use Rattle.gem_spool.specs.declared.works.Work.TheVariants as work
 use Rattle.gem_spool.proofs.Amid.{purge_one}
 use Rattle.gem_spool.proofs.Doing.{len_is, next_is, same_file}
 use Rattle.spool_file.specs.File.{SpoolFile, StandsFor, file_in}
 use Rattle.spool_file.specs.Front.{floor_cell, mark_cell}
+use Rattle.spool_file.specs.Logs.{written_by}
 use Rattle.spool_file.specs.Slot.{Message}
-use Rattle.spool_slots.specs.Changes.{Clears, Drops, HasLooked, HoldsThrough, IsSame, Moves, Reserves, cleared_in}
-use Rattle.spool_slots.specs.Changes.{reserved_in, with_floor_moved, with_mark_moved, without_first}
+use Rattle.spool_slots.specs.Changes.{Clears, DropsSized, HoldsThrough, IsSame, Moves, Reserves}
+use Rattle.spool_slots.specs.Files.{cleared_in, reserved_in, with_floor_moved, with_mark_moved, without_first}
 use Rattle.spool_slots.specs.Losses.{IsSure, closes, file_left, gate_counts, names_spare}
 use Rattle.spool_slots.specs.Spool.{SpoolView}
 use Rattle.spool_slots.specs.declared.states.Dropping.TheVariants as dropping
@@ -32,6 +35,7 @@ use Rattle.spool_slots.proofs.Lost.{sure_stopped}
 use Rattle.spool_works.specs.Breaking.{HasLeftAt, IsGoingDisk, LeavesImages}
 use Rattle.spool_works.specs.DiskWorks.DiskWork.{Change, ReadOldest, Reserve}
 use Rattle.spool_works.specs.WorkLosses.{calls_at}
+use Rattle.spool_works.proofs.CallPlaces.{call-before}
 
 -- ---- which call it was
 
@@ -41,6 +45,29 @@ one-of-two zero left among = absurd (let some = among.0 in omega (arith, some))
 one-of-two (suc zero) left among = refl
 one-of-two (suc (suc zero)) left among = refl
 one-of-two (suc (suc (suc n))) left among = absurd (let most = among.1 in omega (arith, most))
+
+-- one, and two behind it
+first-one : (call : ℕ) (one two : Left) → IsAmong call 1 → call_of call (one ∷ two ∷ two ∷ []) ≡ Some one
+first-one zero one two among = absurd (let some = among.0 in omega (arith, some))
+first-one (suc zero) one two among = refl
+first-one (suc (suc n)) one two among = absurd (let most = among.1 in omega (arith, most))
+
+behind-one : (call : ℕ) (one two : Left) → (IsAmong call 1 → ⊥) → IsAmong call 3
+    → call_of call (one ∷ two ∷ two ∷ []) ≡ Some two
+behind-one zero one two late among = absurd (let some = among.0 in omega (arith, some))
+behind-one (suc zero) one two late among = absurd (late (omega arith, omega arith))
+behind-one (suc (suc zero)) one two late among = refl
+behind-one (suc (suc (suc zero))) one two late among = refl
+behind-one (suc (suc (suc (suc n)))) one two late among = absurd (let most = among.1 in omega (arith, most))
+
+-- of calls that all leave the same
+pub any-same : (left : Left) (calls : List DiskCall) (call : ℕ) → IsAmong call (length calls)
+    → call_of call (map (λ one. left) calls) ≡ Some left
+any-same left calls zero among = absurd (let some = among.0 in omega (arith, some))
+any-same left [] (suc n) among = absurd (let most = among.1 in omega (arith, most))
+any-same left (one ∷ calls) (suc zero) among = refl
+any-same left (one ∷ calls) (suc (suc n)) among =
+    any-same left calls (suc n) (omega arith, let most = among.1 in omega (arith, most))
 
 first-three : (call : ℕ) (one two : Left) → IsAmong call 3
     → call_of call (one ∷ one ∷ one ∷ two ∷ two ∷ []) ≡ Some one
@@ -130,18 +157,28 @@ module _ {D : Type 0} (members : disk.Ghosts D) (v : SpoolView D) (st : Standing
 
   -- ---- a message leaves
 
-  pub drop-left : Drops members v (Err (dropping.Failed spent))
-      → HasLeftAt (calls_at st (Change (work.DropOldest 1))) health.stop_in t
-  drop-left drops = record {
-    left = by_gate closes (standing_after st (work.DropOldest 1)) st;
-    is =
-        one-of-two health.stop_in (by_gate closes (standing_after st (work.DropOldest 1)) st)
-        (by-cause 2 _ drops.0.disk.cause);
-    at = λ choice.
-        subst (StandsFor (image_of choice t))
-        (ap (λ (f : SpoolFile). file_left (gate_counts choice closes) (without_first f) f) (sym file-is))
-        (drops.1 (sure 2 1) s t old new choice);
-  }
+  pub drop-left : (slots : ℕ) → DropsSized members v slots (Err (dropping.Failed spent))
+      → HasLeftAt (calls_at st (Change (work.DropOldest slots))) health.stop_in t
+  drop-left slots drops = go (either-among health.stop_in 1)
+    where
+      gate : Left
+      gate = by_gate closes (standing_after st (work.DropOldest slots)) st
+
+      go : IsAmong health.stop_in 1 ⊎ (IsAmong health.stop_in 1 → ⊥)
+          → HasLeftAt (calls_at st (Change (work.DropOldest slots))) health.stop_in t
+      go (inl early) = record {
+        left = stays st;
+        is = first-one health.stop_in (stays st) gate early;
+        at = left-same (drops.1.early (inr (inl early)));
+      }
+      go (inr late) = record {
+        left = gate;
+        is = behind-one health.stop_in (stays st) gate late (by-cause 3 _ drops.0.made.calls.cause);
+        at = λ choice.
+            subst (StandsFor (image_of choice t))
+            (ap (λ (f : SpoolFile). file_left (gate_counts choice closes) (without_first f) f) (sym file-is))
+            (drops.1.late (sure 3 1) (λ planned. late (planned-stop 1 planned)) s t old new choice);
+      }
 
   -- ---- a cell gets another value
 
@@ -215,13 +252,15 @@ module _ {D : Type 0} (members : disk.Ghosts D) (v : SpoolView D) (st : Standing
 
   -- ---- the oldest message is read
 
-  pub read-left : (k : ℕ) (w : SpoolView D) → w.disk ≡ spent.disk → HasLooked members v w k Failed
-      → HasLeftAt (calls_at st ReadOldest) health.stop_in t
-  read-left k w same looked = record {
+  pub read-left : (slots : ℕ) (w : SpoolView D) → w.disk ≡ spent.disk → st.file.slots ≡ v.slots
+      → oldest_in (count_in st) ≡ v.first → HasReadSlots members v w (oldest_looks v slots) Failed
+      → HasLeftAt (calls_at st (ReadOldest slots)) health.stop_in t
+  read-left slots w same all first reads = record {
     left = stays st;
     is =
-        only-one health.stop_in (stays st)
-        (by-cause 1 ⊥ (subst (λ (d : D). DiskFault health (members.health d) 1 ⊥) same looked.cause));
+        call-before (map (λ one. stays st) looks ++ []) [] health.stop_in (stays st)
+        (call-before (map (λ one. stays st) looks) [] health.stop_in (stays st)
+        (any-same (stays st) looks health.stop_in (by-cause (length looks) _ fault)));
     at = λ choice.
         let image : image_of choice t ≡ s.now.bytes =
         subst (λ (u : Story). image_of choice t ≡ u.now.bytes) here
@@ -230,7 +269,22 @@ module _ {D : Type 0} (members : disk.Ghosts D) (v : SpoolView D) (st : Standing
         subst (λ (bytes : List ℕ). StandsFor bytes st.file) (sym image) (is.file s old).stands;
   }
     where
+      looks : List DiskCall
+      looks = slot_looks st.file.slots (oldest_in (count_in st)) slots
+
+      looks-are : oldest_looks v slots ≡ looks
+      looks-are =
+          ap (λ (k : ℕ). slot_looks v.slots k slots) (sym first)
+          ∙ ap (λ (n : ℕ). slot_looks n (oldest_in (count_in st)) slots) (sym all)
+
+      fault : DiskFault health (members.health spent.disk) (length looks) (health.room < written_by looks)
+      fault =
+          subst (λ (d : D). DiskFault health (members.health d) (length looks) (health.room < written_by looks)) same
+          (subst (λ (calls : List DiskCall).
+          DiskFault health (members.health w.disk) (length calls) (health.room < written_by calls)) looks-are
+          reads.made.calls.cause)
+
       here : t ≡ s
       here =
           story-inj t s
-          (sym new ∙ ap (λ (d : D). members.told d) (sym same) ∙ looked.told ∙ old)
+          (sym new ∙ ap (λ (d : D). members.told d) (sym same) ∙ reads.told ∙ old)

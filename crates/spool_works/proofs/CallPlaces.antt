@@ -1,11 +1,7 @@
--- The call of a place among some calls behind others, and how many have passed.
-use Rattle.std.proofs.Common.{◌≡◌, refl, subst, arith, nat_le, ◌+◌, ◌<◌, zero, suc, Bool, true, false, ℕ, List, [], ◌∷◌}
-use Rattle.std.proofs.Common.{◌++◌, length, Some}
-use Rattle.std.proofs.lemmas.Bool.Decides.{nat_tests}
+-- The call of a place among some calls behind others.
+use Rattle.std.proofs.Common.{◌≡◌, subst, arith, ◌+◌, zero, suc, ℕ, List, [], ◌∷◌, ◌++◌, length, Some}
 use Rattle.std.specs.Prelude.{slice_get}
-use Rattle.disk_base.specs.Faults.{DiskHealth, IsAmong}
 use Rattle.message_end.specs.Ends.{call_of}
-use Rattle.spool_works.specs.Breaking.{HasPassed}
 
 -- ---- the call of a place
 
@@ -34,24 +30,3 @@ call-behind one two zero x is = absurd (cc)
 call-behind one two (suc n) x is =
     let same : suc (length one + n) ≡ length one + suc n = omega arith in
     subst (λ (k : ℕ). call_of k (one ++ two) ≡ Some x) same (get-behind one two n x is)
-
--- ---- what has passed
-
--- the planned call isn't among so many, so it comes behind them, or none is planned
-past-all : (at calls : ℕ) → (IsAmong at calls → ⊥) → 0 < at → calls < at
-past-all at calls none some = go (nat_le at calls) refl
-  where
-    go : (within : Bool) → nat_le at calls ≡ within → calls < at
-    go true e = absurd (none (some, grind (arith, nat_tests, e)))
-    go false e = grind (arith, nat_tests, e)
-
-pub passed-both : (a b c : DiskHealth) (one two : ℕ) → HasPassed a b one → HasPassed b c two → HasPassed a c (one + two)
-passed-both a b c one two first second = record {
-  passes = λ among.
-      let near = first.nearer in
-      let past = past-all a.stop_in one first.passes among.0 in
-      let most = among.1 in
-      second.passes (omega (arith, near, past), omega (arith, near, most));
-  nearer = let near = first.nearer in let more = second.nearer in omega (arith, near, more);
-  on = second.on;
-}

@@ -1,23 +1,24 @@
 -- That the calls which works make are theirs.
-use Rattle.std.proofs.Common.{◌≡◌, refl, sym, ap, subst, ◌∙◌, ◌⊎◌, inl, inr, arith, ℕ, zero, suc, ◌+◌, ◌%◌, ◌<◌, ◌≤◌}
+use Rattle.std.proofs.Common.{◌≡◌, refl, sym, ap, subst, ◌∙◌, ◌⊎◌, inl, inr, arith, ℕ, zero, suc, ◌+◌, ◌<◌, ◌≤◌}
 use Rattle.std.proofs.Common.{List, [], ◌∷◌, ◌++◌, append_assoc, append-nil, length, length-append, map, take, Option}
 use Rattle.std.proofs.Common.{Some, None}
 use Rattle.std.specs.Prelude.{Err}
 use Rattle.std.specs.List.{slice_get}
 use Rattle.disk_base.specs.Calls.{DiskCall, Logs, with_call}
-use Rattle.disk_base.specs.Faults.{IsLeftOut}
+use Rattle.disk_base.specs.Faults.{DiskFault, IsLeftOut}
 use Rattle.disk_base.specs.Story.{Story}
 use Rattle.disk_base.specs.declared.disk.Disk as disk
 use Rattle.disk_base.specs.declared.disk.DiskAnswer.{DiskAnswer}
 use Rattle.disk_base.specs.declared.disk.DiskAnswer.TheVariants.{Done, Failed}
-use Rattle.disk_base.proofs.Stretches.{fault_wider, left_out_behind, used_behind, used_none}
+use Rattle.disk_base.proofs.Stretches.{fault_behind, fault_wider, left_out_behind, used_behind, used_none}
 use Rattle.gate_cell.specs.Cell.{Cell}
 use Rattle.gem_spool.specs.declared.count.Count.{Count}
 use Rattle.gem_spool.specs.declared.spool.GemSpool.{GemSpool}
 use Rattle.gem_spool.specs.declared.works.Work.{Work}
 use Rattle.gem_spool.specs.Standing.{Standing, Stands, count_in, count_of}
-use Rattle.gem_spool.specs.Updates.{calls_in, cell_update, reads}
-use Rattle.gem_spool.specs.Works.{Does, DoesAll, oldest_in, reserved, standing_after}
+use Rattle.gem_spool.specs.Updates.{calls_in, cell_update}
+use Rattle.gem_spool.specs.Oldest.{HasReadSlots, HasReadSome, oldest_looks, slot_looks}
+use Rattle.gem_spool.specs.Works.{AreSized, Does, DoesAll, oldest_in, reserved, standing_after}
 use Rattle.gem_spool.proofs.Amid.{does_amid}
 use Rattle.gem_spool.proofs.Called.{does_makes, fails_makes}
 use Rattle.gem_spool.proofs.Doing.{does_stands, same_file}
@@ -25,13 +26,14 @@ use Rattle.gem_spool.proofs.Stays.{moved_is}
 use Rattle.spool_file.specs.File.{SpoolFile}
 use Rattle.spool_file.specs.Front.{mark_cell}
 use Rattle.spool_file.specs.Logs.{LogsAll, MakesAll, answered, written_by}
-use Rattle.spool_file.specs.Slot.{slot_place}
 use Rattle.spool_file.proofs.Making.{written_both}
-use Rattle.spool_slots.specs.Changes.{HasLooked, MovesMark, reserved_in}
-use Rattle.spool_slots.specs.Spool.{SpoolView, first_slot}
+use Rattle.spool_slots.specs.Changes.{MovesMark}
+use Rattle.spool_slots.specs.Files.{reserved_in}
+use Rattle.spool_slots.specs.Spool.{SpoolView}
 use Rattle.spool_slots.specs.declared.states.Spent.{Spent as Device}
 use Rattle.spool_slots.proofs.Settling.{makes_moved}
-use Rattle.spool_works.specs.DiskCalls.{HasFailedIn, HasMade, all_disk_calls, disk_calls, failing, with_calls}
+use Rattle.spool_works.specs.DiskCalls.{HasBegunWorks, HasFailedIn, HasMade, all_disk_calls, disk_calls, failing}
+use Rattle.spool_works.specs.DiskCalls.{with_calls}
 use Rattle.spool_works.specs.DiskWorks.DiskWork.{Change, ReadOldest, Reserve}
 
 -- ---- lists of calls
@@ -83,6 +85,13 @@ module _ {D : Type 0} (members : disk.Ghosts D) where
     rest = two.rest;
     are = ap (λ (all : List DiskCall). xs ++ all) two.are ∙ sym (append_assoc xs two.first (two.failed ∷ two.rest));
     listed = go two.listed;
+    fault = fault_behind (members.health a) (members.health b) (length xs) (written_by xs) one.used (members.health c)
+        (length ys) (length (xs ++ ys)) ((members.health b).room < written_by ys)
+        ((members.health a).room < written_by (xs ++ ys)) (let long = length-append xs ys in omega (arith, long))
+        (λ less.
+        let left = one.used.room_left in
+        let wrote = written_both xs ys in
+        omega (arith, less, left, wrote)) two.fault;
   }
     where
       made : (calls : List DiskCall) → members.calls c ≡ with_calls calls (members.calls b)
@@ -101,8 +110,9 @@ module _ {D : Type 0} (members : disk.Ghosts D) where
           (sym (append_assoc xs two.first (failing two.failed ∷ []))))
       go (inr (out, is)) =
           inr (
-            left_out_behind (members.health a) (members.health b) (length xs) (written_by xs) one.used (members.health c)
-                (length two.first) (written_by two.first + length two.failed.bytes) (length (xs ++ two.first))
+            left_out_behind (members.health a) (members.health b) (length xs) (written_by xs) one.used
+                (members.health c) (length two.first) (written_by two.first + length two.failed.bytes)
+                (length (xs ++ two.first))
                 (written_by (xs ++ two.first) + length two.failed.bytes) (sym (length-append xs two.first))
                 (let long = written_both xs two.first in omega (arith, long)) out,
             made two.first is,
@@ -116,6 +126,10 @@ module _ {D : Type 0} (members : disk.Ghosts D) where
     rest = is.rest ++ ys;
     are = ap (λ (all : List DiskCall). all ++ ys) is.are ∙ append_assoc is.first (is.failed ∷ is.rest) ys;
     listed = is.listed;
+    fault = fault_wider (members.health a) (members.health c) (length xs) (length (xs ++ ys))
+        ((members.health a).room < written_by xs) ((members.health a).room < written_by (xs ++ ys))
+        (let long = length-append xs ys in omega (arith, long))
+        (λ less. let wrote = written_both xs ys in omega (arith, less, wrote)) is.fault;
   }
 
   -- ---- calls in a row
@@ -137,18 +151,21 @@ module _ {D : Type 0} (members : disk.Ghosts D) where
 
     -- up to one that failed
     stops-in :
-        (first rest : List DiskCall) (mid : Option (List DiskCall)) (C : ℕ → ℕ → Type 0)
+        DiskFault (members.health old) (members.health new) (length calls)
+        ((members.health old).room < written_by calls)
+        → (first rest : List DiskCall) (mid : Option (List DiskCall)) (C : ℕ → ℕ → Type 0)
         → ((made n all both : ℕ) → all ≡ length first + made → both ≡ written_by first + n → C made n
         → LeftOut all both)
         → mid ≡ with_calls first (members.calls old) → calls ≡ first ++ rest
         → LogsAll rest C mid (members.calls new) Failed → HasFailedIn members old new calls
-    stops-in first [] mid C more same are none = absurd none
-    stops-in first (call ∷ rest) mid C more same are (inl logs) = record {
+    stops-in fault first [] mid C more same are none = absurd none
+    stops-in fault first (call ∷ rest) mid C more same are (inl logs) = record {
       first = first;
       failed = call;
       rest = rest;
       are = are;
       listed = go logs;
+      fault = fault;
     }
       where
         go : Logs (answered call) (C 0 (length call.bytes)) mid (members.calls new) Failed
@@ -157,8 +174,8 @@ module _ {D : Type 0} (members : disk.Ghosts D) where
         go (inl (out, stays)) = inr (more 0 (length call.bytes) _ _ (omega arith) refl out, stays ∙ same)
         go (inr added) =
             inl (added ∙ ap (with_call (failing call)) same ∙ with-both first (failing call ∷ []) (members.calls old))
-    stops-in first (call ∷ rest) mid C more same are (inr logs) =
-        stops-in (first ++ call ∷ []) rest (with_call call mid) (λ made n. C (1 + made) (length call.bytes + n))
+    stops-in fault first (call ∷ rest) mid C more same are (inr logs) =
+        stops-in fault (first ++ call ∷ []) rest (with_call call mid) (λ made n. C (1 + made) (length call.bytes + n))
         (λ made n all both is_all is_both.
         let long = length-append first (call ∷ []) in
         let wrote = written_both first (call ∷ []) in
@@ -168,7 +185,7 @@ module _ {D : Type 0} (members : disk.Ghosts D) where
 
     pub failed-all : Makes Failed → HasFailedIn members old new calls
     failed-all is =
-        stops-in [] calls (members.calls old) LeftOut
+        stops-in is.cause [] calls (members.calls old) LeftOut
         (λ made n all both is_all is_both out.
         left_out_behind (members.health old) (members.health old) 0 0 (used_none (members.health old))
         (members.health new) made n all both (omega (arith, is_all)) (omega (arith, is_both)) out)
@@ -178,25 +195,27 @@ module _ {D : Type 0} (members : disk.Ghosts D) where
 
   pub all-made :
       (g : GemSpool D) (works : List Work) (h : GemSpool D) (st : Standing) → Stands members g.spool st → (s : Story)
-      → members.told g.spool.disk ≡ Some s → DoesAll members g works h
+      → members.told g.spool.disk ≡ Some s → AreSized st.next st.file.list works → DoesAll members g works h
       → HasMade members g.spool.disk h.spool.disk (all_disk_calls st (map Change works))
-  all-made g [] h st stands s told is =
+  all-made g [] h st stands s told sized is =
       made-same g.spool.disk h.spool.disk (ap (λ (x : GemSpool D). x.spool.disk) is)
-  all-made g (one ∷ works) h st stands s told (u, done, rest) =
+  all-made g (one ∷ works) h st stands s told sized (u, done, rest) =
       let mid = does_amid members g u one st stands done s told in
       made-then g.spool.disk u.spool.disk h.spool.disk (disk_calls st (Change one))
       (all_disk_calls (standing_after st one) (map Change works))
       (made-all g.spool.disk u.spool.disk (disk_calls st (Change one))
       (does_makes members g u one st stands s told done))
-      (all-made u works h (standing_after st one) (does_stands members g u one st stands done) mid.0 mid.1 rest)
+      (all-made u works h (standing_after st one) (does_stands members g u one st stands sized.0 done) mid.0 mid.1
+      sized.1 rest)
 
   pub all-failed :
       (g : GemSpool D) (works : List Work) (at : ℕ) (one : Work) (before : GemSpool D) (spent : Device D)
       (st : Standing) → Stands members g.spool st → (s : Story) → members.told g.spool.disk ≡ Some s
-      → slice_get works at ≡ Some one → DoesAll members g (take at works) before → Does members before one (Err spent)
+      → AreSized st.next st.file.list works → slice_get works at ≡ Some one → DoesAll members g (take at works) before
+      → Does members before one (Err spent)
       → HasFailedIn members g.spool.disk spent.disk (all_disk_calls st (map Change works))
-  all-failed g [] at one before spent st stands s told is done fails = absurd (cc)
-  all-failed g (x ∷ works) zero one before spent st stands s told is done fails =
+  all-failed g [] at one before spent st stands s told sized is done fails = absurd (cc)
+  all-failed g (x ∷ works) zero one before spent st stands s told sized is done fails =
       failed-before g.spool.disk spent.disk (disk_calls st (Change x))
       (all_disk_calls (standing_after st x) (map Change works))
       (failed-all g.spool.disk spent.disk (disk_calls st (Change x))
@@ -206,13 +225,13 @@ module _ {D : Type 0} (members : disk.Ghosts D) where
     where
       same : Some x ≡ Some one → x ≡ one
       same is = cc
-  all-failed g (x ∷ works) (suc at) one before spent st stands s told is (u, first, rest) fails =
+  all-failed g (x ∷ works) (suc at) one before spent st stands s told sized is (u, first, rest) fails =
       let mid = does_amid members g u x st stands first s told in
       failed-behind g.spool.disk u.spool.disk spent.disk (disk_calls st (Change x))
       (all_disk_calls (standing_after st x) (map Change works))
       (made-all g.spool.disk u.spool.disk (disk_calls st (Change x)) (does_makes members g u x st stands s told first))
-      (all-failed u works at one before spent (standing_after st x) (does_stands members g u x st stands first) mid.0
-      mid.1 is rest fails)
+      (all-failed u works at one before spent (standing_after st x) (does_stands members g u x st stands sized.0 first)
+      mid.0 mid.1 sized.1 is rest fails)
 
   -- ---- the mark
 
@@ -238,29 +257,36 @@ module _ {D : Type 0} (members : disk.Ghosts D) where
 
   -- ---- the oldest message
 
-  module _ (v w : SpoolView D) (st : Standing) (count : count_of v ≡ count_in st) where
-    abbrev look : List DiskCall
-    look = reads (slot_place (first_slot v)) 4096 ∷ []
+  module _ (v w : SpoolView D) (st : Standing) (slots : ℕ) (count : count_of v ≡ count_in st) (below : v.first ≤ v.next)
+    where
+      look-is : oldest_looks v slots ≡ disk_calls st (ReadOldest slots)
+      look-is =
+          let first : v.first ≡ oldest_in (count_of v) = omega (arith, below) in
+          ap (λ (n : ℕ). slot_looks v.slots n slots) first
+          ∙ ap (λ (c : Count). slot_looks c.slots (oldest_in c) slots) count
+          ∙ sym (append-nil (slot_looks st.file.slots (oldest_in (count_in st)) slots))
+          ∙ sym (append-nil (slot_looks st.file.slots (oldest_in (count_in st)) slots ++ []))
 
-    look-is : v.next ≡ v.first + v.len → look ≡ disk_calls st ReadOldest
-    look-is even =
-        let first : v.first ≡ oldest_in (count_of v) = omega (arith, even) in
-        ap (λ (n : ℕ). reads (slot_place (n % v.slots)) 4096 ∷ []) first
-        ∙ ap (λ (c : Count). reads (slot_place (oldest_in c % c.slots)) 4096 ∷ []) count
+      pub look-made : HasReadSlots members v w (oldest_looks v slots) Done
+          → HasMade members v.disk w.disk (disk_calls st (ReadOldest slots))
+      look-made reads =
+          subst (λ (calls : List DiskCall). HasMade members v.disk w.disk calls) look-is
+          (made-all v.disk w.disk (oldest_looks v slots) reads.made.calls)
 
-    pub look-made : HasLooked members v w (first_slot v) Done
-        → HasMade members v.disk w.disk (disk_calls st ReadOldest)
-    look-made looked =
-        subst (λ (calls : List DiskCall). HasMade members v.disk w.disk calls) (look-is looked.even)
-        (made-all v.disk w.disk look (record { cause = looked.cause; logs = looked.calls }))
+      pub look-stops : HasReadSlots members v w (oldest_looks v slots) Failed
+          → HasFailedIn members v.disk w.disk (disk_calls st (ReadOldest slots))
+      look-stops reads =
+          subst (λ (calls : List DiskCall). HasFailedIn members v.disk w.disk calls) look-is
+          (failed-all v.disk w.disk (oldest_looks v slots) reads.made.calls)
 
-    pub look-stops : HasLooked members v w (first_slot v) Failed
-        → HasFailedIn members v.disk w.disk (disk_calls st ReadOldest)
-    look-stops looked =
-        subst (λ (calls : List DiskCall). HasFailedIn members v.disk w.disk calls) (look-is looked.even)
-        (failed-all v.disk w.disk look
-        (record {
-          cause = fault_wider (members.health v.disk) (members.health w.disk) 1 1 ⊥ ((members.health v.disk).room < 0)
-              (omega arith) (λ none. absurd none) looked.cause;
-          logs = inl looked.calls;
-        }))
+  -- memory ran out amid its slots
+  pub look-begun : (v w : SpoolView D) (st : Standing) (slots : ℕ) → count_of v ≡ count_in st → v.first ≤ v.next
+      → HasReadSome members v w (oldest_looks v) slots → HasBegunWorks members v.disk w.disk st (ReadOldest slots ∷ [])
+  look-begun v w st slots count below some = record {
+    first = [];
+    rest = ReadOldest slots ∷ [];
+    are = refl;
+    reads = disk_calls st (ReadOldest some.made);
+    are_reads = (some.made, some.few, refl);
+    made = look-made v w st some.made count below some.reads;
+  }

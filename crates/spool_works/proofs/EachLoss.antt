@@ -1,15 +1,19 @@
 -- What holds of the file before a work, and of what stands behind each gate of it, holds of what each loss leaves.
-use Rattle.std.proofs.Common.{Bool, true, false, ℕ, List, [], ◌∷◌, ◌++◌, map, Option, Some, None, if◌then◌else◌}
+use Rattle.std.proofs.Common.{Bool, true, false, ℕ, ◌+◌, length, List, [], ◌∷◌, ◌++◌, map}
 use Rattle.disk_base.specs.Calls.{DiskCall}
 use Rattle.disk_base.specs.declared.cut.CutChoice.{CutChoice}
-use Rattle.gem_spool.specs.Updates.{Gate, Left, Update, behind_gate, behind_update, by_gate, closing, gate_losses}
-use Rattle.gem_spool.specs.Updates.{losses_in, stays}
+use Rattle.gem_spool.specs.Updates.{Commit, Left, Update, behind_commit, behind_update, by_gate, closing_losses}
+use Rattle.gem_spool.specs.Updates.{commit_losses, losses_in, stays}
+use Rattle.gem_spool.specs.Updates.Commit.{ByGate, ByGates, Nothing}
 use Rattle.gem_spool.specs.Standing.{Standing}
-use Rattle.gem_spool.specs.Works.{is_stale, next_place, purge_updates, standing_after, unstale}
+use Rattle.gem_spool.specs.Works.{purge_updates, standing_after}
 use Rattle.gem_spool.specs.declared.works.Work.TheVariants as work
 use Rattle.spool_file.specs.File.{SpoolFile}
+use Rattle.spool_file.specs.Sizes.{slots_for}
 use Rattle.spool_file.specs.Slot.{Message}
-use Rattle.spool_slots.specs.Losses.{file_left, gate_counts}
+use Rattle.spool_slots.specs.Calls.{synced}
+use Rattle.spool_slots.specs.Files.{gates_shut, with_gates}
+use Rattle.spool_slots.specs.Losses.{file_left, gate_counts, gates_left}
 use Rattle.spool_works.specs.DiskWorks.{DiskWork, updates_at, standing_behind}
 use Rattle.spool_works.specs.DiskWorks.DiskWork.{Change, ReadOldest, Reserve}
 use Rattle.spool_works.specs.WorkLosses.{calls_at}
@@ -20,13 +24,19 @@ module _ (Good : SpoolFile → Type 0) where
   abbrev pub LeavesGood : Left → Type 0
   LeavesGood left = (choice : CutChoice) → Good (left choice)
 
-  abbrev pub IsGoodBehind : Option Gate → Type 0
-  IsGoodBehind None = Unit {0}
-  IsGoodBehind (Some gate) = Good gate.behind.file
+  -- whichever gates are open
+  abbrev pub IsGoodBar : SpoolFile → Type 0
+  IsGoodBar file = (gates : List Bool) → Good (with_gates gates file)
 
-  abbrev pub AreGoodBehind : List Update → Type 0
-  AreGoodBehind [] = Unit {0}
-  AreGoodBehind (update ∷ updates) = IsGoodBehind update.gate × AreGoodBehind updates
+  abbrev pub IsGoodBehind : Standing → Commit → Type 0
+  IsGoodBehind st Nothing = Unit {0}
+  IsGoodBehind st (ByGate gate) = Good gate.behind.file
+  IsGoodBehind st (ByGates gates) = Good gates.behind.file × IsGoodBar st.file
+
+  abbrev pub AreGoodBehind : Standing → List Update → Type 0
+  AreGoodBehind st [] = Unit {0}
+  AreGoodBehind st (update ∷ updates) =
+      IsGoodBehind st update.commit × AreGoodBehind (behind_update st update) updates
 
   -- ---- updates
 
@@ -46,49 +56,53 @@ module _ (Good : SpoolFile → Type 0) where
       go true = is
       go false = is_not
 
-  gates-good : (st : Standing) (gate : Option Gate) → Good st.file → IsGoodBehind gate
-      → Each LeavesGood (gate_losses st gate)
-  gates-good st None is behind = tt
-  gates-good st (Some gate) is behind =
+  closing-good : (st : Standing) (marks : ℕ → List Bool) (m : ℕ) (calls : List DiskCall) → IsGoodBar st.file
+      → Each LeavesGood (closing_losses st marks m calls)
+  closing-good st marks m [] bar = tt
+  closing-good st marks m (call ∷ calls) bar =
+      (λ choice. bar (gates_left choice (marks (m + 1)) st.file.gates), closing-good st marks (m + 1) calls bar)
+
+  commit-good : (st : Standing) (commit : Commit) → Good st.file → IsGoodBehind st commit
+      → Each LeavesGood (commit_losses st commit)
+  commit-good st Nothing is behind = tt
+  commit-good st (ByGate gate) is behind =
       let good = gate-good gate.means gate.behind st behind is in (good, (good, tt))
+  commit-good st (ByGates gates) is behind = closing-good st gates.marks 0 (synced gates.calls) behind.1
 
-  next-good : (st : Standing) (gate : Option Gate) → Good st.file → IsGoodBehind gate → Good (behind_gate st gate).file
-  next-good st None is behind = is
-  next-good st (Some gate) is behind = behind
+  next-good : (st : Standing) (commit : Commit) → Good st.file → IsGoodBehind st commit
+      → Good (behind_commit st commit).file
+  next-good st Nothing is behind = is
+  next-good st (ByGate gate) is behind = behind
+  next-good st (ByGates gates) is behind = behind.0
 
-  pub each-left : (updates : List Update) (st : Standing) → Good st.file → AreGoodBehind updates
+  pub each-left : (updates : List Update) (st : Standing) → Good st.file → AreGoodBehind st updates
       → Each LeavesGood (losses_in st updates)
   each-left [] st is behind = tt
   each-left (update ∷ updates) st is behind =
-      each-both (map (λ call. stays st) update.early ++ gate_losses st update.gate)
+      each-both (map (λ call. stays st) update.early ++ commit_losses st update.commit)
       (losses_in (behind_update st update) updates)
-      (each-both (map (λ call. stays st) update.early) (gate_losses st update.gate) (early-good st update.early is)
-      (gates-good st update.gate is behind.0))
-      (each-left updates (behind_update st update) (next-good st update.gate is behind.0) behind.1)
+      (each-both (map (λ call. stays st) update.early) (commit_losses st update.commit) (early-good st update.early is)
+      (commit-good st update.commit is behind.0))
+      (each-left updates (behind_update st update) (next-good st update.commit is behind.0) behind.1)
 
   -- ---- works
 
   module _ (st : Standing) where
-    stale-good : (stale : Bool) → Good (unstale st).file
-        → IsGoodBehind (if stale then Some (closing (next_place st) (unstale st)) else None)
-    stale-good true shut = shut
-    stale-good false shut = tt
-
     purge-good : (list : List Message) → Good (standing_after st work.Purge).file
-        → AreGoodBehind (purge_updates list st)
+        → AreGoodBehind st (purge_updates list st)
     purge-good [] after = tt
     purge-good (message ∷ list) after = (after, tt)
 
-    behind-good : (one : DiskWork) → Good (unstale st).file → Good (standing_behind st one).file
-        → AreGoodBehind (updates_at st one)
-    behind-good Reserve shut after = (after, tt)
-    behind-good ReadOldest shut after = (tt, tt)
-    behind-good (Change (work.Put stream function body)) shut after =
-        (stale-good (is_stale st) shut, (after, tt))
-    behind-good (Change (work.DropOldest slots)) shut after = (after, tt)
-    behind-good (Change work.Purge) shut after = purge-good st.file.list after
+    behind-good : (one : DiskWork) → IsGoodBar st.file → Good (standing_behind st one).file
+        → AreGoodBehind st (updates_at st one)
+    behind-good Reserve bar after = (after, tt)
+    behind-good (ReadOldest slots) bar after = (tt, tt)
+    behind-good (Change (work.Put stream function body)) bar after =
+        ((bar (gates_shut st.file.slots st.next (slots_for (length body)) st.file.gates), bar), (after, tt))
+    behind-good (Change (work.DropOldest slots)) bar after = (after, tt)
+    behind-good (Change work.Purge) bar after = purge-good st.file.list after
 
-    -- a put may have closed a stale gate by then
-    pub each-work : (one : DiskWork) → Good st.file → Good (unstale st).file → Good (standing_behind st one).file
+    -- a put may have closed some stale gates by then
+    pub each-work : (one : DiskWork) → Good st.file → IsGoodBar st.file → Good (standing_behind st one).file
         → Each LeavesGood (calls_at st one)
-    each-work one is shut after = each-left (updates_at st one) st is (behind-good one shut after)
+    each-work one is bar after = each-left (updates_at st one) st is (behind-good one bar after)

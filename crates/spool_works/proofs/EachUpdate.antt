@@ -21,7 +21,7 @@ purge-behind st (message ∷ list) is = refl
 
 pub works-are-updates : WorksAreUpdates
 works-are-updates st Reserve = refl
-works-are-updates st ReadOldest = refl
+works-are-updates st (ReadOldest slots) = refl
 works-are-updates st (Change (work.Put stream function body)) = refl
 works-are-updates st (Change (work.DropOldest slots)) = refl
 works-are-updates st (Change work.Purge) = purge-behind st st.file.list refl

@@ -1,5 +1,5 @@
 -- That what a loss of power leaves of a work is what a start may find.
-use Rattle.std.proofs.Common.{◌≡◌, refl, sym, ap, subst, ◌∙◌, ◌⊎◌, inl, inr, arith, zero, suc, ◌+◌, ◌-◌, ◌≤◌, true}
+use Rattle.std.proofs.Common.{◌≡◌, refl, sym, ap, subst, ◌∙◌, ◌⊎◌, inl, inr, arith, zero, suc, ◌-◌, ◌≤◌, true}
 use Rattle.std.proofs.Common.{false, ℕ, List, [], ◌∷◌, ◌++◌, append-nil, drop, length, Option, Some, None}
 use Rattle.disk_base.specs.declared.cut.CutChoice.{CutChoice}
 use Rattle.gem_spool.specs.Updates.{Left}
@@ -86,7 +86,7 @@ pub each-call :
 each-call st one leaving may =
     each-work (λ (file : SpoolFile). Finds st.file.list (storing_at st.next one) leaving file.list) st one
     (finds-all st.file.list (storing_at st.next one) leaving)
-    (finds-all st.file.list (storing_at st.next one) leaving) (after one may)
+    (λ gates. finds-all st.file.list (storing_at st.next one) leaving) (after one may)
   where
     some : (why : Cause) → leaving ≡ Some why → leaves_by why (length (found_in st.file.list))
         ≤ leaving_of leaving (length (found_in st.file.list))
@@ -99,7 +99,7 @@ each-call st one leaving may =
     after : (one : DiskWork) → MayLeaveAt one leaving
         → Finds st.file.list (storing_at st.next one) leaving (standing_behind st one).file.list
     after Reserve may = finds-all st.file.list None leaving
-    after ReadOldest may = finds-all st.file.list None leaving
+    after (ReadOldest slots) may = finds-all st.file.list None leaving
     after (Change (work.Put stream function body)) may =
         finds-more st.file.list (record { number = st.next; stream = stream; function = function; body = body }) leaving
     after (Change (work.DropOldest slots)) (inl is) = finds-less 1 st.file.list None leaving (some cause.Confirmed is)
@@ -123,4 +123,4 @@ purges-whole st left has choice =
     (λ (one : Left). (choice : CutChoice) → ((one choice).list ≡ st.file.list) ⊎ ((one choice).list ≡ []))
     (calls_at st (Change work.Purge)) left
     (each-work (λ (file : SpoolFile). (file.list ≡ st.file.list) ⊎ (file.list ≡ [])) st (Change work.Purge) (inl refl)
-    (inl refl) (inr refl)) has choice
+    (λ gates. inl refl) (inr refl)) has choice

@@ -10,4 +10,3 @@ mod EachUpdate
 pub mod FoundLosses
 pub mod LossCounts
 pub mod WorkedCalls
-pub mod WritesFew

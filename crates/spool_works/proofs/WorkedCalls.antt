@@ -1,10 +1,11 @@
 -- The worked calls, computed.
 use Rattle.std.specs.Prelude.{refl}
 use Rattle.gate_cell.specs.Cell.{copy_bytes}
-use Rattle.spool_works.specs.WorkedCalls.{CallsOfWorks, KeptBehindWorks, LossesOfWorks}
+use Rattle.spool_file.specs.Sizes.{slots_for}
+use Rattle.spool_works.specs.WorkedCalls.{CallsOfLongWorks, CallsOfWorks, KeptBehindWorks, LossesOfWorks}
 
 pub calls-of-works : CallsOfWorks
-unfolding copy_bytes
+unfolding copy_bytes slots_for
 calls-of-works = record {
   puts = refl;
   drops = refl;
@@ -17,7 +18,20 @@ calls-of-works = record {
   overwrites_one = refl;
 }
 
+pub calls-of-long-works : CallsOfLongWorks
+unfolding copy_bytes slots_for
+calls-of-long-works = record {
+  nine = refl;
+  next = refl;
+  opened = refl;
+  wraps = refl;
+  stale = refl;
+  tries = refl;
+  drops = refl;
+}
+
 pub kept-behind-works : KeptBehindWorks
+unfolding copy_bytes slots_for
 kept-behind-works = record {
   put = refl;
   dropped = refl;
@@ -27,6 +41,7 @@ kept-behind-works = record {
 }
 
 pub losses-of-works : LossesOfWorks
+unfolding copy_bytes slots_for
 losses-of-works = record {
   put_5A = refl;
   put_A5 = refl;
@@ -45,4 +60,8 @@ losses-of-works = record {
   second_A5 = refl;
   first_5A = refl;
   first_A5 = refl;
+  long_old = refl;
+  long_new = refl;
+  shut_first = refl;
+  shut_old = refl;
 }

@@ -1,8 +1,8 @@
 -- Which calls of the disk the works of a step are, one by one, and which of them were made (this profile).
-use Rattle.std.specs.Prelude.{◌≡◌, ◌⊎◌, ◌+◌, List, [], ◌∷◌, ◌++◌, length, Option, Result, Ok, Err}
+use Rattle.std.specs.Prelude.{◌≡◌, ◌⊎◌, ◌+◌, ◌<◌, ◌≤◌, ℕ, List, [], ◌∷◌, ◌++◌, length, Option, Result, Ok, Err}
 use Rattle.std.specs.Option.{option_map}
 use Rattle.disk_base.specs.Calls.{DiskCall}
-use Rattle.disk_base.specs.Faults.{IsLeftOut, IsUsed}
+use Rattle.disk_base.specs.Faults.{DiskFault, IsLeftOut, IsUsed}
 use Rattle.disk_base.specs.declared.disk.Disk as disk
 use Rattle.disk_base.specs.declared.disk.DiskAnswer.TheVariants.{Failed}
 use Rattle.gem_spool.specs.declared.spool.GemSpool.{GemSpool}
@@ -11,7 +11,8 @@ use Rattle.gem_spool.specs.Standing.{Standing}
 use Rattle.spool_file.specs.Logs.{written_by}
 use Rattle.spool_works.specs.declared.ended.Ended.{Ended}
 use Rattle.spool_works.specs.declared.ended.Ended.TheVariants as ended
-use Rattle.spool_works.specs.DiskWorks.{DiskWork, updates_at, standing_behind}
+use Rattle.spool_works.specs.DiskWorks.{DiskWork, standing_behind, standings_behind, updates_at}
+use Rattle.spool_works.specs.DiskWorks.DiskWork.{Change, ReadOldest, Reserve}
 
 -- ---- the calls of a work, in their order
 
@@ -39,8 +40,8 @@ pub record HasMade {D : Type 0} (members : disk.Ghosts D) (old new : D) (calls :
   pub listed : members.calls new ≡ with_calls calls (members.calls old)
   pub used : IsUsed (members.health old) (members.health new) (length calls) (written_by calls)
 
--- of these calls some first ones were done, the next one failed, and no others were made. The list lacks the one that
--- failed only where it was left out behind them
+-- of these calls some first ones were done, the next one failed, and no others were made; it is told by what is said of
+-- a fault among them. The list lacks the one that failed only where it was left out behind them
 pub record HasFailedIn {D : Type 0} (members : disk.Ghosts D) (old new : D) (calls : List DiskCall) : Type 0 where
   pub first : List DiskCall
   pub failed : DiskCall
@@ -49,18 +50,30 @@ pub record HasFailedIn {D : Type 0} (members : disk.Ghosts D) (old new : D) (cal
   pub listed : (members.calls new ≡ with_calls (first ++ failing failed ∷ []) (members.calls old))
       ⊎ (IsLeftOut (members.health old) (members.health new) (length first) (written_by first + length failed.bytes)
       × (members.calls new ≡ with_calls first (members.calls old)))
+  pub fault : DiskFault (members.health old) (members.health new) (length calls)
+      ((members.health old).room < written_by calls)
 
--- the calls of some first works were made and done, and no others
+-- of the next work, where it reads the oldest message, some first slots were read; of any other one nothing was begun
+abbrev pub AreFirstReads : Standing → List DiskWork → List DiskCall → Type 0
+AreFirstReads st (ReadOldest slots ∷ works) calls =
+    (made : ℕ) × (made ≤ slots) × (calls ≡ disk_calls st (ReadOldest made))
+AreFirstReads st (Reserve ∷ works) calls = calls ≡ []
+AreFirstReads st (Change work ∷ works) calls = calls ≡ []
+AreFirstReads st [] calls = calls ≡ []
+
+-- the calls of some first works were made and done, and perhaps first reads of the next one, and no others
 pub record HasBegunWorks
     {D : Type 0} (members : disk.Ghosts D) (old new : D) (st : Standing) (works : List DiskWork)
     : Type 0 where
   pub first : List DiskWork
   pub rest : List DiskWork
   pub are : works ≡ first ++ rest
-  pub made : HasMade members old new (all_disk_calls st first)
+  pub reads : List DiskCall
+  pub are_reads : AreFirstReads (standings_behind st first) rest reads
+  pub made : HasMade members old new (all_disk_calls st first ++ reads)
 
 -- the disk's calls are those of these works, up to the first that fails. Where numbers were spent all of them are done,
--- since they were decided by then; where memory was wanting, some first works are
+-- since they were decided by then; where memory was wanting, some first works are, and perhaps first reads of the next
 abbrev pub HasCalled :
     {D R : Type 0} → disk.Ghosts D → (R → D) → D → Standing → List DiskWork → Result R (Ended D) → Type 0
 HasCalled members disk_of old st works (Ok r) = HasMade members old (disk_of r) (all_disk_calls st works)

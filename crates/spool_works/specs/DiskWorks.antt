@@ -2,9 +2,10 @@
 -- which updates they are made (this profile).
 use Rattle.std.specs.Prelude.{◌≡◌, ℕ, ◌+◌, List, [], ◌∷◌, ◌++◌, fold, length, if◌then◌else◌}
 use Rattle.gem_spool.specs.declared.works.Work.{Work}
-use Rattle.gem_spool.specs.Updates.{IsAmidUpdates, Update, behind_updates, calls_in, cell_update, only_early, reads}
-use Rattle.gem_spool.specs.Standing.{Standing}
-use Rattle.gem_spool.specs.Works.{updates_of, oldest_place, reserved as marked, standing_after}
+use Rattle.gem_spool.specs.Oldest.{slot_looks}
+use Rattle.gem_spool.specs.Updates.{IsAmidUpdates, Update, behind_updates, calls_in, cell_update, only_early}
+use Rattle.gem_spool.specs.Standing.{Standing, count_in}
+use Rattle.gem_spool.specs.Works.{oldest_in, reserved as marked, standing_after, updates_of}
 use Rattle.spool_file.specs.Front.{mark_cell}
 use Rattle.spool_file.specs.Logs.{written_by}
 use Rattle.trace_log.specs.Log.{Happening, is_before_change}
@@ -12,11 +13,11 @@ use Rattle.message_end.specs.Ends.{Asked}
 
 -- ---- the works of a step
 
--- system bytes are reserved; the list changes; the oldest message is read
+-- system bytes are reserved; the list changes; the oldest message is read, which takes so many slots
 pub data DiskWork : Type 0 where
   Reserve : DiskWork
   Change : (work : Work) → DiskWork
-  ReadOldest : DiskWork
+  ReadOldest : (slots : ℕ) → DiskWork
 
 -- ---- what is noted where the disk fails at one of them
 
@@ -35,23 +36,23 @@ fronts_of before [] notes = []
 fronts_of before (Reserve ∷ works) notes = before ∷ fronts_of before works notes
 fronts_of before (Change work ∷ works) notes =
     (before ++ up_to_change notes) ∷ fronts_of (before ++ up_to_change notes) works (behind_change notes)
-fronts_of before (ReadOldest ∷ works) notes = (before ++ notes) ∷ fronts_of before works notes
+fronts_of before (ReadOldest slots ∷ works) notes = (before ++ notes) ∷ fronts_of before works notes
 
 -- ---- what they make, and how
 
 abbrev pub standing_behind : Standing → DiskWork → Standing
 standing_behind st Reserve = marked st
 standing_behind st (Change work) = standing_after st work
-standing_behind st ReadOldest = st
+standing_behind st (ReadOldest slots) = st
 
 abbrev pub standings_behind : Standing → List DiskWork → Standing
 standings_behind = fold standing_behind
 
--- the mark is moved on; the list changes; the slot of the oldest message is read
+-- the mark is moved on; the list changes; the slots of the oldest message are read
 abbrev pub updates_at : Standing → DiskWork → List Update
 updates_at st Reserve = cell_update mark_cell st.file.mark (st.file.mark.value + 4096) (marked st) ∷ []
 updates_at st (Change work) = updates_of st work
-updates_at st ReadOldest = only_early (reads (oldest_place st) 4096 ∷ []) ∷ []
+updates_at st (ReadOldest slots) = only_early (slot_looks st.file.slots (oldest_in (count_in st)) slots) ∷ []
 
 -- what a crash leaves amid a work
 abbrev pub IsAmidWork : Standing → DiskWork → List ℕ → Type 0

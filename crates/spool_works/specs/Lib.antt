@@ -5,4 +5,3 @@ pub mod Found
 pub mod HandedBack
 pub mod WorkLosses
 pub mod WorkedCalls
-pub mod WritesFew

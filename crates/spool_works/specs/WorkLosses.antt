@@ -1,5 +1,6 @@
 -- Where power may be lost in a work of the spool, and that what it leaves is what a start may find (this profile).
-use Rattle.std.specs.Prelude.{◌≡◌, ◌⊎◌, ℕ, Option, Some, None, List, []}
+use Rattle.std.specs.Prelude.{◌≡◌, ◌⊎◌, ℕ, Option, Some, None, List, [], length, map}
+use Rattle.std.specs.List.{zip}
 use Rattle.disk_base.specs.declared.cut.CutChoice.{CutChoice}
 use Rattle.gem_spool.specs.declared.works.Work.TheVariants as work
 use Rattle.gem_spool.specs.Updates.{Left, losses_in}
@@ -9,12 +10,17 @@ use Rattle.spool_law.specs.Shelf.{IsFoundOf}
 use Rattle.trace_log.specs.Names.{Spooled}
 use Rattle.trace_log.specs.declared.names.Cause.{Cause}
 use Rattle.trace_log.specs.declared.names.Cause.TheVariants as cause
+use Rattle.spool_works.specs.DiskCalls.{disk_calls}
 use Rattle.spool_works.specs.DiskWorks.{DiskWork, updates_at}
 use Rattle.spool_works.specs.Found.{found_in}
 
 -- at each call of a work, in their order
 abbrev pub calls_at : Standing → DiskWork → List Left
 calls_at st one = losses_in st (updates_at st one)
+
+-- the same, each with how many bytes the call writes
+abbrev pub lost_calls : Standing → DiskWork → List (ℕ × Left)
+lost_calls st one = zip (map (λ call. length call.bytes) (disk_calls st one)) (calls_at st one)
 
 -- ---- what a start finds then
 
@@ -26,7 +32,7 @@ storing_at next (DiskWork.Change (work.Put stream function body)) =
 storing_at next (DiskWork.Change (work.DropOldest slots)) = None
 storing_at next (DiskWork.Change work.Purge) = None
 storing_at next DiskWork.Reserve = None
-storing_at next DiskWork.ReadOldest = None
+storing_at next (DiskWork.ReadOldest slots) = None
 
 abbrev pub MayLeaveAt : DiskWork → Option Cause → Type 0
 MayLeaveAt (DiskWork.Change (work.Put stream function body)) leaving = Unit {0}
@@ -34,7 +40,7 @@ MayLeaveAt (DiskWork.Change (work.DropOldest slots)) leaving =
     (leaving ≡ Some cause.Confirmed) ⊎ (leaving ≡ Some cause.Overwritten)
 MayLeaveAt (DiskWork.Change work.Purge) leaving = leaving ≡ Some cause.Purged
 MayLeaveAt DiskWork.Reserve leaving = Unit {0}
-MayLeaveAt DiskWork.ReadOldest leaving = Unit {0}
+MayLeaveAt (DiskWork.ReadOldest slots) leaving = Unit {0}
 
 -- at whichever call of a work power is lost, and whatever becomes of the disk, what is left is what the law of the
 -- spool lets a start find

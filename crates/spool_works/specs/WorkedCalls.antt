@@ -1,14 +1,15 @@
 -- Calls of the disk that can be followed by hand, what is kept behind them, and what a loss leaves at each.
 use Rattle.std.specs.Prelude.{◌≡◌, ℕ, Bool, true, false, List, [], ◌∷◌, ◌++◌, length, map, replicate}
+use Rattle.disk_base.specs.Calls.{DiskCall}
 use Rattle.disk_base.specs.declared.cut.CutChoice.{CutChoice}
-use Rattle.disk_base.specs.declared.cut.CutChoice.TheVariants.{Fill, New, Old}
+use Rattle.disk_base.specs.declared.cut.CutChoice.TheVariants.{Fill, First, New, Old}
 use Rattle.gate_cell.specs.Cell.{Cell}
 use Rattle.gem_spool.specs.declared.works.Work.TheVariants.{DropOldest, Purge, Put}
-use Rattle.gem_spool.specs.Updates.{reads, syncs, writes}
 use Rattle.gem_spool.specs.Standing.{Standing}
+use Rattle.gem_spool.specs.Updates.{reads, syncs, writes}
 use Rattle.spool_file.specs.File.{SpoolFile}
 use Rattle.spool_file.specs.Slot.{Message}
-use Rattle.spool_slots.specs.Changes.{with_mark}
+use Rattle.spool_slots.specs.Files.{with_mark}
 use Rattle.spool_works.specs.DiskWorks.{DiskWork, standings_behind}
 use Rattle.spool_works.specs.DiskWorks.DiskWork.{Change, ReadOldest, Reserve}
 use Rattle.spool_works.specs.DiskCalls.{all_disk_calls}
@@ -29,6 +30,7 @@ second_copy value = record { value = value; second = true }
 -- messages in slots of which these are open, with mark 4,096 and floor 0
 abbrev pub file_with : List Bool → List Message → SpoolFile
 file_with gates list = record {
+  version = 2;
   slots = length gates;
   gates = gates;
   mark = second_copy 4096;
@@ -79,7 +81,8 @@ pub record CallsOfWorks : Type 0 where
       all_disk_calls of_three (put_alarm ∷ [])
       ≡ reads 8192 1 ∷ writes 8193 (alarm 7) ∷ syncs ∷ writes 8192 (90 ∷ []) ∷ syncs ∷ []
   pub drops :
-      all_disk_calls of_three (Change (DropOldest 1) ∷ []) ≡ writes 12288 (0 ∷ []) ∷ syncs ∷ []
+      all_disk_calls of_three (Change (DropOldest 1) ∷ [])
+      ≡ reads 12299 4 ∷ writes 12288 (0 ∷ []) ∷ syncs ∷ []
   -- the floor becomes 3
   pub purges :
       all_disk_calls full_of_three (Change Purge ∷ [])
@@ -97,7 +100,7 @@ pub record CallsOfWorks : Type 0 where
       ∷ []
   -- of an empty list nothing is purged
   pub purges_none : all_disk_calls purged_three (Change Purge ∷ []) ≡ []
-  pub tries : all_disk_calls of_three (ReadOldest ∷ []) ≡ reads 12288 4096 ∷ []
+  pub tries : all_disk_calls of_three (ReadOldest 1 ∷ []) ≡ reads 12288 4096 ∷ []
   -- one reserve is written over the first copy, and another one over the second
   pub reserves :
       all_disk_calls of_three (Reserve ∷ Reserve ∷ [])
@@ -105,7 +108,8 @@ pub record CallsOfWorks : Type 0 where
       ∷ reads 28 1 ∷ writes 20 (0 ∷ 0 ∷ 0 ∷ 0 ∷ 0 ∷ 0 ∷ 48 ∷ 0 ∷ []) ∷ syncs ∷ writes 28 (1 ∷ []) ∷ syncs ∷ []
   pub overwrites :
       all_disk_calls of_two (Change (DropOldest 1) ∷ put_alarm ∷ [])
-      ≡ writes 8192 (0 ∷ [])
+      ≡ reads 8203 4
+      ∷ writes 8192 (0 ∷ [])
       ∷ syncs
       ∷ reads 8192 1
       ∷ writes 8193 (alarm 7)
@@ -116,7 +120,8 @@ pub record CallsOfWorks : Type 0 where
   -- in one slot, too, the put finds the gate that the drop has closed
   pub overwrites_one :
       all_disk_calls of_one (Change (DropOldest 1) ∷ put_alarm ∷ [])
-      ≡ writes 4096 (0 ∷ [])
+      ≡ reads 4107 4
+      ∷ writes 4096 (0 ∷ [])
       ∷ syncs
       ∷ reads 4096 1
       ∷ writes 4097 (alarm 7)
@@ -124,6 +129,62 @@ pub record CallsOfWorks : Type 0 where
       ∷ writes 4096 (90 ∷ [])
       ∷ syncs
       ∷ []
+
+-- ---- a message of several slots
+
+-- a body of so many bytes
+abbrev pub zeros : ℕ → List ℕ
+zeros size = replicate size 0
+
+-- sixteen slots, empty, and a body that takes three
+abbrev pub of_sixteen : Standing
+of_sixteen = record { next = 0; file = file_with (replicate 16 false) [] }
+
+abbrev pub put_long : DiskWork
+put_long = Change (Put 5 1 (zeros 9000))
+
+-- three slots with messages 1 and 2 behind the one that was dropped, and a body that takes two
+abbrev pub dropped_two : Standing
+dropped_two =
+    standings_behind (record { next = 2; file = file_with (true ∷ true ∷ false ∷ []) (plain 0 ∷ plain 1 ∷ []) })
+    (Change (DropOldest 1) ∷ [])
+
+-- four slots, full until they were purged
+abbrev pub purged_four : Standing
+purged_four =
+    standings_behind
+    (record { next = 4; file = file_with (replicate 4 true) (plain 0 ∷ plain 1 ∷ plain 2 ∷ plain 3 ∷ []) })
+    (Change Purge ∷ [])
+
+-- where a call is, and how many bytes it writes
+abbrev pub places_of : List DiskCall → List (ℕ × ℕ)
+places_of calls = map (λ call. (call.at, length call.bytes)) calls
+
+pub record CallsOfLongWorks : Type 0 where
+  pub nine :
+      places_of (all_disk_calls of_sixteen (put_long ∷ []))
+      ≡ (4096, 0) ∷ (8192, 0) ∷ (12288, 0) ∷ (4097, 4095) ∷ (8207, 4081) ∷ (12303, 838) ∷ (0, 0) ∷ (4096, 1) ∷ (0, 0)
+      ∷ []
+  pub next : (standings_behind of_sixteen (put_long ∷ [])).next ≡ 3
+  pub opened :
+      (standings_behind of_sixteen (put_long ∷ [])).file.gates ≡ true ∷ replicate 15 false
+  -- a list that wraps: slots 2 and 0
+  pub wraps :
+      places_of (all_disk_calls dropped_two (Change (Put 5 1 (zeros 5000)) ∷ []))
+      ≡ (12288, 0) ∷ (4096, 0) ∷ (12289, 4095) ∷ (4111, 919) ∷ (0, 0) ∷ (12288, 1) ∷ (0, 0) ∷ []
+  -- three of four stale gates are closed first
+  pub stale :
+      places_of (all_disk_calls purged_four (put_long ∷ []))
+      ≡ (4096, 0) ∷ (8192, 0) ∷ (12288, 0) ∷ (4096, 1) ∷ (8192, 1) ∷ (12288, 1) ∷ (0, 0)
+      ∷ (4097, 4095) ∷ (8207, 4081) ∷ (12303, 838) ∷ (0, 0) ∷ (4096, 1) ∷ (0, 0) ∷ []
+  pub tries :
+      places_of (all_disk_calls of_sixteen (put_long ∷ ReadOldest 3 ∷ []))
+      ≡ places_of (all_disk_calls of_sixteen (put_long ∷ []))
+      ++ (4096, 0) ∷ (8192, 0) ∷ (12288, 0) ∷ []
+  pub drops :
+      places_of (all_disk_calls of_sixteen (put_long ∷ Change (DropOldest 3) ∷ []))
+      ≡ places_of (all_disk_calls of_sixteen (put_long ∷ []))
+      ++ (4107, 0) ∷ (4096, 1) ∷ (0, 0) ∷ []
 
 -- ---- what is kept behind them
 
@@ -168,8 +229,8 @@ pub record LossesOfWorks : Type 0 where
   pub put_5A : numbers_left of_three put_alarm (Fill 90) ≡ then_left 3 (5 ∷ 6 ∷ []) 2 (5 ∷ 6 ∷ 7 ∷ [])
   pub put_A5 : numbers_left of_three put_alarm (Fill 165) ≡ replicate 5 (5 ∷ 6 ∷ [])
   -- one slot that overwrites
-  pub drop_5A : numbers_left of_one (Change (DropOldest 1)) (Fill 90) ≡ replicate 2 (6 ∷ [])
-  pub drop_A5 : numbers_left of_one (Change (DropOldest 1)) (Fill 165) ≡ replicate 2 []
+  pub drop_5A : numbers_left of_one (Change (DropOldest 1)) (Fill 90) ≡ replicate 3 (6 ∷ [])
+  pub drop_A5 : numbers_left of_one (Change (DropOldest 1)) (Fill 165) ≡ then_left 1 (6 ∷ []) 2 []
   pub put_then_5A : numbers_left dropped_one put_alarm (Fill 90) ≡ then_left 3 [] 2 (7 ∷ [])
   pub put_then_A5 : numbers_left dropped_one put_alarm (Fill 165) ≡ replicate 5 []
   -- a gate of the floor's cell that is odd names the second copy, which is the new one
@@ -192,3 +253,15 @@ pub record LossesOfWorks : Type 0 where
   pub second_A5 : marks_left of_three (Fill 165) ≡ replicate 5 4096
   pub first_5A : marks_left of_other_copy (Fill 90) ≡ replicate 5 4096
   pub first_A5 : marks_left of_other_copy (Fill 165) ≡ then_left 3 4096 2 8192
+  -- a put that was stopped at one of its last two calls is done where the gate counts
+  pub long_old : numbers_left of_sixteen put_long Old ≡ replicate 9 []
+  pub long_new : numbers_left of_sixteen put_long New ≡ then_left 7 [] 2 (0 ∷ [])
+  -- of three stale gates that are closed the first ones are, as many as the choice has bytes for
+  pub shut_first :
+      gates_left purged_four put_long (First 1)
+      ≡ replicate 3 (replicate 4 true)
+      ++ replicate 4 (false ∷ replicate 3 true)
+      ++ then_left 4 (false ∷ false ∷ false ∷ true ∷ []) 2 (true ∷ false ∷ false ∷ true ∷ [])
+  pub shut_old :
+      gates_left purged_four put_long Old
+      ≡ then_left 7 (replicate 4 true) 6 (false ∷ false ∷ false ∷ true ∷ [])

@@ -2,7 +2,7 @@
 
 ghost use Rattle.spool_works.specs.DiskWorks.{WorksAreUpdates};
 ghost use Rattle.spool_works.specs.WorkLosses.{LossesAreFound, PurgesAreWhole};
-ghost use Rattle.spool_works.specs.WorkedCalls.{CallsOfWorks, KeptBehindWorks, LossesOfWorks};
+ghost use Rattle.spool_works.specs.WorkedCalls.{CallsOfLongWorks, CallsOfWorks, KeptBehindWorks, LossesOfWorks};
 
 /// Behind the last update of a work stands what the work makes of the spool.
 pub fn works_are_updates()
@@ -19,6 +19,7 @@ pub fn losses_are_found()
 /// Examples: the disk's calls of each kind of work, what is kept behind them, and what a loss leaves at each.
 pub fn worked_calls()
     ensures calls { CallsOfWorks }
+    ensures long { CallsOfLongWorks }
     ensures kept { KeptBehindWorks }
     ensures losses { LossesOfWorks }
 {}
