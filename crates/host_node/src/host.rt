@@ -10,7 +10,7 @@ ghost use Rattle.message_end.specs.Calls.{deadline_of_end};
 ghost use Rattle.line_end.specs.Plan.{HostPlanFits};
 ghost use Rattle.transact.specs.Numbers.{numbers_from};
 ghost use Rattle.message_end.specs.Core.Went.{Goes};
-ghost use Rattle.message_end.specs.Ends.{EndsBy, HasGone, IsEmpty, Leaves, MayTake, input_of, most_calls};
+ghost use Rattle.message_end.specs.Ends.{EndsBy, HasGone, IsEmpty, Leaves, MayTake, input_of, none_asked, reach_behind};
 ghost use Rattle.message_end.specs.Parts.{Takes, TakesAll, bare_started, closes, fixed_turn};
 ghost use Rattle.host_node.specs.Host.{at_start, breaks, end_plan, ends_late, enters, first_own, follows, given, heeds, heeds_primary, heeds_secondary, host_machine, is_acceptance, judges, obeys, offers, parts, sends, takes, ticks};
 
@@ -64,7 +64,7 @@ impl End for Host {
     ghost use Rattle.line_end.specs.Plan.{HostPlanFits};
     ghost use Rattle.message_end.specs.Calls.{deadline_of_end};
     ghost use Rattle.message_end.specs.Core.Went.{Goes};
-    ghost use Rattle.message_end.specs.Ends.{most_calls};
+    ghost use Rattle.message_end.specs.Ends.{none_asked, reach_behind};
     ghost use Rattle.message_end.specs.Parts.{Did, Node, bare_started};
     ghost use Rattle.trace_log.specs.Commands.{HostCommandFits};
     ghost use Rattle.transact.specs.Numbers.{numbers_from};
@@ -95,8 +95,8 @@ impl End for Host {
 
     ghost loses = { ⊥ };
 
-    // It makes no call of a disk, so none of those that it might make is ever the last.
-    ghost planned = { λ host. most_calls + 1 };
+    // It makes no call of a disk.
+    ghost reach = { λ host. reach_behind none_asked };
 
     ghost stopped = { λ host. false };
 
@@ -111,9 +111,7 @@ impl End for Host {
     }
 
     // It has no disk.
-    fn arm(&mut self, _call: u32) -> bool {
-        false
-    }
+    fn arm(&mut self, _call: u32) {}
 
     fn restart(
         &mut self,
@@ -141,10 +139,14 @@ impl End for Host {
         requires input { MayTake HostCommandFits (input_of input) }
         requires out { IsEmpty out.old }
         ensures step { Leaves [] false (host_machine.act self.old (input_of input.entry) now) self.new out.new result }
-        ensures ends { EndsBy host_machine [] (most_calls + 1) (most_calls + 1) false
+        ensures ends { EndsBy host_machine [] (reach_behind none_asked) (reach_behind none_asked) false
             (λ choice now. host_machine.restart self.new now) out.new result }
     {
         self.step_on(alloc, input, now, out)
+    }
+
+    fn has_stopped(&self) -> bool {
+        false
     }
 
     fn deadline(&self) -> Option<u64> {

@@ -24,6 +24,7 @@ pub mod NumbersKept
 mod Open
 pub mod Parts
 pub mod PartsKept
+pub mod Passing
 pub mod Reading
 pub mod Starts
 pub mod Steps

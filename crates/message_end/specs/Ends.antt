@@ -1,6 +1,7 @@
 -- What an end of the line is to those above: what it is given in a step, what it makes of that, and the law that it
 -- keeps.
-use Rattle.std.specs.Prelude.{◌≡◌, ◌≢◌, ◌⊎◌, ◌+◌, ◌-◌, ◌<◌, ◌≤◌, zero, suc, ℕ, Bool, true, false, List, [], ◌∷◌, ◌++◌, length, Option, Some, None, Result, Ok, Err}
+use Rattle.std.specs.Prelude.{◌≡◌, ◌≢◌, ◌⊎◌, ◌+◌, ◌-◌, ◌<◌, ◌≤◌, ◌==◌, ◌||◌, nat_lt, zero, suc, ℕ, Bool, true, false, List, [], ◌∷◌, ◌++◌}
+use Rattle.std.specs.Prelude.{Option, None, Result, Ok, Err, if◌then◌else◌}
 use Rattle.std.specs.List.{filter_map, slice_get}
 use Rattle.disk_base.specs.declared.cut.CutChoice.{CutChoice}
 use Rattle.line_end.specs.Plan.{LinePlanFits}
@@ -45,17 +46,19 @@ none_asked = record { calls = 0; bytes = 0 }
 abbrev pub asked_both : Asked → Asked → Asked
 asked_both one two = record { calls = one.calls + two.calls; bytes = one.bytes + two.bytes }
 
--- a call of an end's disk at which its power may be lost: what is noted by then, and, by what becomes of the bytes that
--- are written and not settled, what is left for a start anew
+-- a call of an end's disk at which its power may be lost, or for which there may be no room: how many bytes it writes,
+-- what is noted by then, and, by what becomes of the bytes that are written and not settled, what is left for a start
+-- anew
 pub record Loss (S : Type 0) : Type 0 where
+  pub bytes : ℕ
   pub front : List Happening
   pub left : CutChoice → S
 
 -- what an end makes of its state in a step at a moment, and when it starts anew without power; and its line. A step
 -- that ends early either fills the end's own store, or its numbers are spent. Its disk may stop a step, or a start,
 -- with these notes: one list for each piece of work that it asks of the disk, in their order; and all of them ask so
--- much of it. A step may be stopped, or its power lost, at each call of the disk, in their order; and so many calls has
--- a start left behind it, those that have made or taken up its file among them
+-- much of it. A step may be stopped, or its power lost, at each call of the disk, in their order; and so much has been
+-- asked of the disk behind a first start, which finds the file made, and behind a start anew, which has taken it up
 pub record Machine (S C : Type 0) : Type 0 where
   pub act : S → Input C → ℕ → Went S Happening
   pub restart : S → ℕ → Went S Happening
@@ -66,20 +69,59 @@ pub record Machine (S C : Type 0) : Type 0 where
   pub asks : S → Input C → ℕ → Asked
   pub start_asks : Asked
   pub losses : S → Input C → ℕ → List (Loss S)
-  pub start_calls : S → ℕ
+  pub first_use : S → Asked
+  pub anew_use : S → Asked
 
 -- the characters that a step has written are noted last, where there are any
 abbrev pub wrote : List ℕ → List Happening
 wrote [] = []
 wrote (byte ∷ bytes) = Wrote (byte ∷ bytes) ∷ []
 
--- the most calls of an end's disk since its file was made, or power was lost (this profile)
-abbrev pub most_calls : ℕ
-most_calls = 65536
+-- ---- how far a disk goes
 
--- how many are left behind a start, up to the one for which there is no room, itself counted
-abbrev pub calls_left : {S C : Type 0} → Machine S C → S → ℕ
-calls_left machine s = most_calls + 1 - machine.start_calls s
+-- an end's disk has room for so many calls since its file was made, or power was lost, and for so many bytes that these
+-- write (this profile)
+abbrev pub most_asked : Asked
+most_asked = record { calls = 65536; bytes = 67108864 }
+
+-- the room that is left of some behind what was asked
+abbrev pub room_behind : Asked → Asked → Asked
+room_behind room asked = record { calls = room.calls - asked.calls; bytes = room.bytes - asked.bytes }
+
+-- how many calls are left up to the one at which an end's power is to go, itself counted, 0 for none; and the room that
+-- its disk has
+pub record Reach : Type 0 where
+  pub cut : ℕ
+  pub room : Asked
+
+-- behind a start, and where a call is planned
+abbrev pub reach_behind : Asked → Reach
+reach_behind asked = record { cut = 0; room = room_behind most_asked asked }
+
+abbrev pub with_cut : ℕ → Reach → Reach
+with_cut call reach = record { cut = call; room = reach.room }
+
+-- there is no room for a call that writes n bytes
+abbrev pub lacks : Asked → ℕ → Bool
+lacks room n = room.calls == 0 || nat_lt room.bytes n
+
+abbrev pub past_call : ℕ → Reach → Reach
+past_call n reach =
+    record { cut = reach.cut - 1; room = room_behind reach.room (record { calls = 1; bytes = n }) }
+
+-- how far the calls of a step come: all are made; or its power goes at one; or there is no room for one
+pub data Passing (S : Type 0) : Type 0 where
+  Passes : (left : Reach) → Passing S
+  Cuts : (loss : Loss S) → Passing S
+  Lacks : (loss : Loss S) → Passing S
+
+-- the first call that is planned, or finds no room, decides; where one call is both, its power goes
+abbrev pub passing : {S : Type 0} → Reach → List (Loss S) → Passing S
+passing reach [] = Passes reach
+passing reach (loss ∷ losses) =
+    if reach.cut == 1 then Cuts loss
+    else if lacks reach.room loss.bytes then Lacks loss
+    else passing (past_call loss.bytes reach) losses
 
 -- the one at a call, which are counted from 1; none at 0
 abbrev pub call_of : {X : Type 0} → ℕ → List X → Option X
@@ -185,29 +227,43 @@ IsNotStopped (Err stop.Full) = Unit {0}
 IsNotStopped (Err stop.DiskFailed) = ⊥
 IsNotStopped (Err stop.NoMemory) = Unit {0}
 
--- the call that is to stop the disk, 0 for none, isn't among a step's, and comes nearer by as many as these
-pub record IsNearer {S : Type 0} (losses : List (Loss S)) (before after : ℕ) : Type 0 where
-  pub passes : call_of before losses ≡ None
-  pub left : after ≡ before - length losses
+-- all calls of a step were made
+abbrev pub IsPassed : {S : Type 0} → Passing S → Type 0
+IsPassed (Passes left) = Unit {0}
+IsPassed (Cuts loss) = ⊥
+IsPassed (Lacks loss) = ⊥
 
--- it was one of them: what was noted by then is noted, and a start anew comes to what the loss says
+-- its power has gone at one of them: what was noted by then is noted, and a start anew comes to what the loss says
 pub record HasLost {S C : Type 0}
-    (machine : Machine S C) (losses : List (Loss S)) (call : ℕ) (anew : CutChoice → ℕ → Went S Happening)
-    (out : StepOut) : Type 0 where
-  pub loss : Loss S
-  pub is : call_of call losses ≡ Some loss
-  pub notes : out.notes ≡ printed loss.front
-  pub starts : (choice : CutChoice) (now : ℕ) → anew choice now ≡ machine.restart (loss.left choice) now
+    (machine : Machine S C) (passed : Passing S) (anew : CutChoice → ℕ → Went S Happening) (out : StepOut) : Type 0
+  where
+    pub loss : Loss S
+    pub is : passed ≡ Cuts loss
+    pub notes : out.notes ≡ printed loss.front
+    pub starts : (choice : CutChoice) (now : ℕ) → anew choice now ≡ machine.restart (loss.left choice) now
 
--- a step goes on where the planned call isn't among its own; a disk that stops it does so at that call; and a step that
--- ends early isn't stopped
+-- there was no room for one of them: what was noted by then is noted
+pub record HasLacked {S : Type 0} (passed : Passing S) (out : StepOut) : Type 0 where
+  pub loss : Loss S
+  pub is : passed ≡ Lacks loss
+  pub notes : out.notes ≡ printed loss.front
+
+abbrev pub HasStoppedAt :
+    {S C : Type 0} → Machine S C → Passing S → Bool → (CutChoice → ℕ → Went S Happening) → StepOut → Type 0
+HasStoppedAt machine passed true anew out = HasLost machine passed anew out
+HasStoppedAt machine passed false anew out = HasLacked passed out
+
+-- a step goes on, or ends early, where all its calls are made; its disk stops it where its power is lost at one of
+-- them, and then the disk has stopped, or where there is no room for one
 abbrev pub EndsBy :
-    {S C : Type 0} → Machine S C → List (Loss S) → (before after : ℕ) → Bool → (CutChoice → ℕ → Went S Happening)
+    {S C : Type 0} → Machine S C → List (Loss S) → (before after : Reach) → Bool → (CutChoice → ℕ → Went S Happening)
     → StepOut → Result (Unit {0}) Stop → Type 0
-EndsBy machine losses before after stopped anew out (Ok done) = IsNearer losses before after × (stopped ≡ false)
-EndsBy machine losses before after stopped anew out (Err stop.DiskFailed) = HasLost machine losses before anew out
-EndsBy machine losses before after stopped anew out (Err stop.NumbersSpent) = call_of before losses ≡ None
-EndsBy machine losses before after stopped anew out (Err stop.Full) = call_of before losses ≡ None
+EndsBy machine losses before after stopped anew out (Ok done) =
+    (passing before losses ≡ Passes after) × (stopped ≡ false)
+EndsBy machine losses before after stopped anew out (Err stop.DiskFailed) =
+    HasStoppedAt machine (passing before losses) stopped anew out
+EndsBy machine losses before after stopped anew out (Err stop.NumbersSpent) = IsPassed (passing before losses)
+EndsBy machine losses before after stopped anew out (Err stop.Full) = IsPassed (passing before losses)
 EndsBy machine losses before after stopped anew out (Err stop.NoMemory) = Unit {0}
 
 -- there are numbers to start with

@@ -116,7 +116,8 @@ machine_of design = record {
   asks = λ s input now. none_asked;
   start_asks = none_asked;
   losses = λ s input now. [];
-  start_calls = λ s. 0;
+  first_use = λ s. none_asked;
+  anew_use = λ s. none_asked;
 }
 
 -- these doings since a start have made the core what it is, and what is kept beside it is sound

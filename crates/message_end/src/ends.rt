@@ -1,14 +1,15 @@
 //! What an end has to offer to be run in a world: a trait, so that what is proved of two ends holds of all that keep
 //! its law.
 
-ghost use Rattle.std.specs.Prelude.{◌≡◌, ◌<◌, ◌^◌, nat_le, ℕ, Bool, false, List, Option, IfOk, OnOk, if◌then◌else◌};
+ghost use Rattle.std.specs.Prelude.{◌≡◌, ◌<◌, ◌^◌, ℕ, Bool, false, List, Option, IfOk, OnOk};
 ghost use Rattle.disk_base.specs.declared.cut.CutChoice.{CutChoice};
 ghost use Rattle.line_end.specs.Step.{is_due};
 ghost use Rattle.line_end.specs.State.{LineState};
 ghost use Rattle.trace_log.specs.Log.{Happening};
 ghost use Rattle.message_end.specs.Core.{Went};
 ghost use Rattle.message_end.specs.Doings.{Doing};
-ghost use Rattle.message_end.specs.Ends.{EndsBy, IsEmpty, IsNotStopped, KeepsLaw, Leaves, Machine, MayTake, Starts, calls_left, input_of};
+ghost use Rattle.message_end.specs.Ends.{EndsBy, IsEmpty, IsNotStopped, KeepsLaw, Leaves, Machine, MayTake, Reach};
+ghost use Rattle.message_end.specs.Ends.{Starts, input_of, reach_behind, with_cut};
 ghost use Rattle.message_end.specs.Plan.{EndPlan};
 
 use crate::end::Stop;
@@ -54,11 +55,10 @@ pub trait End: Drop {
     // When a state acts next by itself.
     ghost due: { State → Option ℕ };
 
-    // Whether it has a disk that may be stopped. How many calls of that are left up to the one that stops it, itself
-    // counted, 0 for none; and whether that was made.
+    // Whether it has a disk that may be stopped. How far that goes; and whether the call was made at which it stops.
     ghost loses: { Type 0 };
 
-    ghost planned: { Self → ℕ };
+    ghost reach: { Self → Reach };
 
     ghost stopped: { Self → Bool };
 
@@ -77,16 +77,14 @@ pub trait End: Drop {
         requires out { IsEmpty out.old }
         ensures start { Starts machine.start_stops (start plan.now store) means out.new result }
         ensures whole { IsNotStopped result }
-        ensures planned { IfOk result (λ end. planned end ≡ calls_left machine (means end)) }
+        ensures reach { IfOk result (λ end. reach end ≡ reach_behind (machine.first_use (means end))) }
         ensures going { IfOk result (λ end. stopped end ≡ false) }
         ensures sound { IfOk result (λ end. sound end) };
 
-    /// Plans that its disk stops at a call, the next one for 1, and answers whether it does. Where there is no room for
-    /// that many calls it is left to stop at the first one too many. An end without a disk plans nothing.
-    fn arm(&mut self, call: u32) -> bool
+    /// Plans that its disk stops at a call, the next one for 1, and at none for 0. An end without a disk plans nothing.
+    fn arm(&mut self, call: u32)
         requires sound { sound self.old }
-        ensures within { loses → result ≡ nat_le call (planned self.old) }
-        ensures planned { planned self.new ≡ (if result then call else planned self.old) }
+        ensures reach { loses → reach self.new ≡ with_cut call (reach self.old) }
         ensures going { stopped self.new ≡ false }
         ensures means { means self.new ≡ means self.old }
         ensures sound { sound self.new };
@@ -104,11 +102,11 @@ pub trait End: Drop {
         requires out { IsEmpty out.old }
         ensures start { Leaves machine.start_stops false (anew self.old choice now) (means self.new) out.new result }
         ensures whole { IsNotStopped result }
-        ensures planned { OnOk result (planned self.new ≡ calls_left machine (means self.new)) }
+        ensures reach { OnOk result (reach self.new ≡ reach_behind (machine.anew_use (means self.new))) }
         ensures going { OnOk result (stopped self.new ≡ false) }
         ensures sound { sound self.new };
 
-    /// One step. The call at which its disk is to stop ends it.
+    /// One step. The call at which its disk is to stop ends it, and one for which that has no room.
     fn step(
         &mut self,
         alloc: Global,
@@ -130,13 +128,17 @@ pub trait End: Drop {
         ensures ends { EndsBy
             machine
             (machine.losses (means self.old) (input_of input.entry) now)
-            (planned self.old)
-            (planned self.new)
+            (reach self.old)
+            (reach self.new)
             (stopped self.new)
             (anew self.new)
             out.new
             result }
         ensures sound { sound self.new };
+
+    /// Whether its disk has stopped at the call that was planned.
+    fn has_stopped(&self) -> bool
+        ensures { result ≡ stopped self.now };
 
     /// When it acts next by itself.
     fn deadline(&self) -> Option<u64>

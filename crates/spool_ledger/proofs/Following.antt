@@ -16,11 +16,12 @@ use Rattle.trace_log.specs.declared.names.Cause.TheVariants.{Confirmed, Overwrit
 use Rattle.spool_ledger.specs.Activity.{changed, is_done}
 use Rattle.spool_ledger.specs.Laws.{Call, HasCome, MayCall, all_bring, brings, given_by, given_in, listed, listed_after, numbers_from, numbers_of, size_by, sizes_in, without}
 use Rattle.spool_ledger.specs.Laws.Call.{Activate, BeginUnload, Confirm, EndUnload, Granted, NextUnload, Purge, Rest, Store, TakeUp, TakeWorks}
-use Rattle.spool_ledger.specs.Ledger.{Booked, IsLedger, IsOne, LedgerView, and_then, carried_out, confirmed_of, is_full, next_of, owed, quiet, room_for, size_of}
-use Rattle.spool_ledger.specs.Storing.{all_out, oldest_of, oldest_out, put, room_made, stored_by, with_room}
+use Rattle.spool_ledger.specs.Ledger.{Booked, IsLedger, IsSome, LedgerView, and_then, carried_out, confirmed_of, is_full, next_of, owed, quiet, room_for, size_of}
+use Rattle.spool_ledger.specs.Sizes.{oldest_of}
+use Rattle.spool_ledger.specs.Storing.{all_out, oldest_out, put, room_made, stored_by, with_room}
 use Rattle.spool_ledger.specs.Unloading.{confirmed, counted, fresh, is_oldest_tried, is_over, let_go, settled, tries, trying, unload_next, with_each, with_unload}
 use Rattle.spool_ledger.specs.declared.unload.Unload.{Unload}
-use Rattle.spool_ledger.proofs.Keeping.{all_out_keeps, makes_room, oldest-one, oldest_out_keeps, put_keeps, sum-both, sum-cons, sum-last, sum-parted}
+use Rattle.spool_ledger.proofs.Keeping.{all_out_keeps, makes_room, oldest-some, oldest_out_keeps, put_keeps, sum-both, sum-cons, sum-last, sum-parted}
 
 -- ---- numbers
 
@@ -46,11 +47,11 @@ without_above n m (size ∷ sizes) below =
     rw (is_other n m below)
     (ap (λ (ns : List ℕ). m ∷ ns) (without_above n (m + size) sizes (omega (arith, below))))
 
-front_out : (first : ℕ) (sizes : List ℕ) → All IsOne sizes → 0 < length sizes →
+front_out : (first : ℕ) (sizes : List ℕ) → All IsSome sizes → 0 < length sizes →
     without first (numbers_from first sizes) ≡ numbers_from (first + oldest_of sizes) (drop 1 sizes)
-front_out first [] even some = absurd (omega (arith, some))
-front_out first (size ∷ sizes) even some =
-    let one : size ≡ 1 = All-head IsOne size sizes even in
+front_out first [] each some = absurd (omega (arith, some))
+front_out first (size ∷ sizes) each some =
+    let one : 1 ≤ size = All-head IsSome size sizes each in
     rw (is_same first) (without_above first (first + size) sizes (omega (arith, one)))
 
 -- two lists of numbers that rise, one behind the other
@@ -137,8 +138,8 @@ IsAlone Purged = ⊥
 oldest_list : (cause : Cause) (for_one : Option Spooled) (v : LedgerView) → IsAlone cause → IsLedger v →
     0 < length v.sizes → listed (numbers_of v) (oldest_out cause for_one v).lines
     ≡ numbers_from (v.first + oldest_of v.sizes) (drop 1 v.sizes)
-oldest_list Confirmed for_one v alone is some = front_out v.first v.sizes is.even some
-oldest_list Overwritten for_one v alone is some = front_out v.first v.sizes is.even some
+oldest_list Confirmed for_one v alone is some = front_out v.first v.sizes is.each some
+oldest_list Overwritten for_one v alone is some = front_out v.first v.sizes is.each some
 oldest_list Purged for_one v alone is some = absurd alone
 
 oldest_comes : (cause : Cause) (for_one : Option Spooled) (v : LedgerView) → IsAlone cause → IsLedger v →
@@ -204,11 +205,13 @@ unload_keeps v unload is confirmed = record {
   some = is.some;
   most = is.most;
   room = is.room;
-  even = is.even;
+  each = is.each;
   bound = is.bound;
   confirmed = confirmed;
   due = is.due;
+  sized = is.sized;
   come_to = is.come_to;
+  leave = is.leave;
 }
 
 unload_comes : (v : LedgerView) (unload : Option Unload) → IsLedger v → confirmed_of unload ≤ v.first →
@@ -245,7 +248,7 @@ counts_comes : (v : LedgerView) → IsLedger v → 0 < length v.sizes →
 counts_comes v is some =
     let first = oldest_comes Confirmed None v tt is some in
     let more = each_confirmed counted 1 (λ unload. omega arith) v.unload in
-    let one = oldest-one v.sizes is.even some in
+    let one = oldest-some v.sizes is.each some in
     come_then v (oldest_out Confirmed None v) (λ w. quiet (with_each counted w)) first
     (unload_comes (oldest_out Confirmed None v).next (option_map counted v.unload) first.is
     (omega (arith, more, one, is.confirmed)))
@@ -272,11 +275,13 @@ active_keeps v active is = record {
   some = is.some;
   most = is.most;
   room = is.room;
-  even = is.even;
+  each = is.each;
   bound = is.bound;
   confirmed = is.confirmed;
   due = is.due;
+  sized = is.sized;
   come_to = is.come_to;
+  leave = is.leave;
 }
 
 changed_comes : (v : LedgerView) (active : Bool) → IsLedger v → HasCome v (changed active v)
@@ -288,11 +293,13 @@ carried_keeps v is = record {
   some = is.some;
   most = is.most;
   room = is.room;
-  even = is.even;
+  each = is.each;
   bound = is.bound;
   confirmed = is.confirmed;
   due = tt;
+  sized = tt;
   come_to = refl;
+  leave = refl;
 }
 
 call_comes : (one : Call) (v : LedgerView) → IsLedger v → MayCall one → HasCome v (brings one v)

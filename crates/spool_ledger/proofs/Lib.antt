@@ -1,3 +1,5 @@
 pub mod Following
 pub mod Keeping
+pub mod Limits
 pub mod Removing
+pub mod Widths

@@ -15,6 +15,7 @@ use Rattle.trace_log.specs.Names.{Spooled, spooled_name}
 use Rattle.trace_log.specs.declared.names.Cause.{Cause}
 use Rattle.trace_log.specs.declared.names.Cause.TheVariants.{Overwritten, Purged}
 use Rattle.spool_ledger.specs.Ledger.{Booked, LedgerView, and_then, is_full, next_of, owed, quiet, room_for, size_of}
+use Rattle.spool_ledger.specs.Sizes.{oldest_of}
 
 -- a primary of this stream and function
 abbrev pub spooled : ℕ → ℕ → List ℕ → Spooled
@@ -29,11 +30,6 @@ put message v = record {
   };
   lines = Storing (next_of v) message ∷ Stored (next_of v) ∷ [];
 }
-
--- how many slots the oldest takes
-abbrev pub oldest_of : List ℕ → ℕ
-oldest_of [] = 0
-oldest_of (size ∷ sizes) = size
 
 -- the oldest message leaves, perhaps to make room for another
 abbrev pub oldest_out : Cause → Option Spooled → LedgerView → Booked

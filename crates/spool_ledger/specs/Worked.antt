@@ -1,11 +1,11 @@
 -- Removals for room that can be followed by hand.
-use Rattle.std.specs.Prelude.{◌≡◌, ℕ, true, false, List, [], ◌∷◌, length, sum, None, Option, Some}
+use Rattle.std.specs.Prelude.{◌≡◌, ℕ, true, List, [], ◌∷◌, replicate, None, Option, Some}
 use Rattle.gem_spool.specs.declared.works.Work.TheVariants.{DropOldest}
 use Rattle.trace_log.specs.Log.Happening.{Gone, Leaving, TooLong}
 use Rattle.trace_log.specs.Names.{Spooled, spooled_name}
 use Rattle.trace_log.specs.declared.names.Cause.TheVariants.{Overwritten}
-use Rattle.spool_ledger.specs.Ledger.{Booked, LedgerView, is_full, quiet, room_by}
-use Rattle.spool_ledger.specs.Storing.{room_made, stored_by, unstored}
+use Rattle.spool_ledger.specs.Ledger.{Booked, LedgerView, is_full, quiet}
+use Rattle.spool_ledger.specs.Storing.{room_made, spooled, stored, unstored}
 
 -- three slots, and messages of these sizes, the oldest with number 0
 abbrev pub of_three : List ℕ → LedgerView
@@ -13,7 +13,7 @@ of_three sizes = record {
   slots = 3;
   first = 0;
   sizes = sizes;
-  stood = record { next = sum sizes; len = length sizes };
+  stood = record { first = 0; sizes = sizes };
   works = [];
   is_active = true;
   unload = None;
@@ -22,6 +22,10 @@ of_three sizes = record {
 -- what leaves for a message of this size
 abbrev pub removed : List ℕ → (size : ℕ) → Option Spooled → Booked
 removed sizes size for_one = room_made size for_one sizes (of_three sizes)
+
+-- a message that takes four slots
+abbrev pub four_slots : Spooled
+four_slots = spooled 5 1 (replicate 12244 0)
 
 pub record RemovesForRoom : Type 0 where
   -- a full spool, and a message of one slot
@@ -59,7 +63,5 @@ pub record RemovesForRoom : Type 0 where
   pub none : (message : Spooled) → removed (1 ∷ 1 ∷ []) 1 (Some message) ≡ quiet (of_three (1 ∷ 1 ∷ []))
   -- nor for a message that could never be put
   pub too_long :
-      (message : Spooled)
-      → stored_by (room_by (is_full 3 [] 4) false (is_full 3 (1 ∷ 1 ∷ 1 ∷ []) 4)) true message
-      (of_three (1 ∷ 1 ∷ 1 ∷ []))
-      ≡ Some (unstored (TooLong (spooled_name message)) (of_three (1 ∷ 1 ∷ 1 ∷ [])))
+      stored true four_slots (of_three (1 ∷ 1 ∷ 1 ∷ []))
+      ≡ Some (unstored (TooLong (spooled_name four_slots)) (of_three (1 ∷ 1 ∷ 1 ∷ [])))

@@ -1,25 +1,19 @@
-//! The ledger as a value: the list by its numbers and sizes, as decided, and by its numbers as it was when works were
-//! last handed over, the works since, and the unload.
+//! The ledger as a value: the list by its numbers and sizes, as decided, and as it was when works were last handed over,
+//! the works since, and the unload.
 
-ghost use Rattle.std.specs.Prelude.{◌≡◌, ◌+◌, ◌^◌, ◌<◌, ◌≤◌, length, IfOk};
+ghost use Rattle.std.specs.Prelude.{◌≡◌, ◌+◌, ◌^◌, ◌<◌, ◌≤◌, All, length, sum, IfOk};
 ghost use Rattle.gem_spool.specs.Works.{AreDue, counts_after};
-ghost use Rattle.spool_file.specs.Run.{slots_for};
-ghost use Rattle.spool_ledger.specs.Ledger.{IsLedger, carried_out, is_full, new_ledger, next_of, room_for, stood_count};
+ghost use Rattle.spool_file.specs.Sizes.{slots_for as slots_of};
+ghost use Rattle.spool_ledger.specs.Sizes.{AreSizedBy, all_sizes_after, oldest_of};
+ghost use Rattle.spool_ledger.specs.Ledger.{IsLedger, IsSome, carried_out, is_full, new_ledger, next_of, room_for, stood_count};
 
 use crate::sizes::Sizes;
 use crate::unload::Unload;
-use gem_spool::{Room, Work};
+use gem_spool::{Count, Room, Work};
 use gl_base::{NoMemory, Row};
-use spool_file::{BODY_MOST, NUMBERS};
+use spool_file::slots_for;
 use std::alloc::Global;
 use std::marker::Model;
-
-/// Where the disk's list stands: the number of its next message, and how many messages it has.
-#[derive(Clone, Copy, Debug)]
-pub(crate) struct Stand {
-    pub(crate) next: u64,
-    pub(crate) len: u32,
-}
 
 /// The spool of the equipment by its numbers, with what the disk owes of it and the unload that runs. No call asks
 /// anything of the disk. Where memory runs out nothing is promised of what becomes of it, since its step ends.
@@ -28,7 +22,8 @@ pub struct Ledger {
     pub(crate) slots: u32,
     pub(crate) first: u64,
     pub(crate) sizes: Sizes,
-    pub(crate) stood: Stand,
+    // the number of the disk's oldest message
+    pub(crate) stood: u64,
     pub(crate) works: Row<Work>,
     pub(crate) is_active: bool,
     pub(crate) unload: Option<Unload>,
@@ -42,8 +37,8 @@ impl Model for Ledger {
     ghost view = { λ inside. record {
       slots = inside.slots;
       first = inside.first;
-      sizes = inside.sizes;
-      stood = inside.stood;
+      sizes = inside.sizes.now;
+      stood = record { first = inside.stood; sizes = inside.sizes.stood };
       works = inside.works;
       is_active = inside.is_active;
       unload = inside.unload;
@@ -52,8 +47,8 @@ impl Model for Ledger {
     ghost invariant = { λ inside. IsLedger (record {
       slots = inside.slots;
       first = inside.first;
-      sizes = inside.sizes;
-      stood = inside.stood;
+      sizes = inside.sizes.now;
+      stood = record { first = inside.stood; sizes = inside.sizes.stood };
       works = inside.works;
       is_active = inside.is_active;
       unload = inside.unload;
@@ -61,27 +56,23 @@ impl Model for Ledger {
 }
 
 impl Ledger {
-    /// A spool that is taken up with so many slots and messages of one slot each, the oldest of this number. It is
-    /// active where there are messages, and the disk owes nothing.
-    pub fn new(alloc: Global, slots: u32, first: u64, len: u32) -> Result<Ledger, NoMemory>
+    /// A spool that is taken up with so many slots and messages of these sizes, in slots, the oldest of this number. It
+    /// is active where there are messages, and the disk owes nothing.
+    pub fn new(alloc: Global, slots: u32, first: u64, sizes: &[u16]) -> Result<Ledger, NoMemory>
         requires some { 0 < slots }
         requires most { slots ≤ 65535 }
-        requires room { len ≤ slots }
-        requires bound { first + len ≤ 2 ^ 63 + 65535 }
-        ensures { IfOk result (λ ledger. ledger ≡ new_ledger slots first len) }
+        requires each { All IsSome sizes.now }
+        requires room { sum sizes.now ≤ slots }
+        requires bound { first + sum sizes.now ≤ 2 ^ 63 + 65535 }
+        ensures { IfOk result (λ ledger. ledger ≡ new_ledger slots first sizes.now) }
     {
-        let sizes = Sizes::ones(alloc, len)?;
-        let stood = Stand {
-            next: first + u64::from(sizes.used()),
-            len: sizes.len(),
-        };
         Ok(Ledger {
             slots,
             first,
-            sizes,
-            stood,
+            sizes: Sizes::of(alloc, sizes)?,
+            stood: first,
             works: Row::new(alloc),
-            is_active: len > 0,
+            is_active: !sizes.is_empty(),
             unload: None,
         })
     }
@@ -91,13 +82,13 @@ impl Ledger {
     pub fn take_works(&mut self, alloc: Global) -> Row<Work>
         ensures works { result ≡ self.old.works }
         ensures due { AreDue (stood_count self.old) result }
+        ensures sized { AreSizedBy self.old.stood.sizes result }
         ensures come_to { counts_after (stood_count self.old) result ≡ stood_count self.new }
+        ensures leave { all_sizes_after self.old.stood.sizes result ≡ self.new.stood.sizes }
         ensures next { self.new ≡ carried_out self.old }
     {
-        self.stood = Stand {
-            next: self.next(),
-            len: self.len(),
-        };
+        self.stood = self.first;
+        self.sizes.hand_over();
         std::mem::replace(&mut self.works, Row::new(alloc))
     }
 
@@ -113,6 +104,16 @@ impl Ledger {
         ensures { result ≡ length self.now.sizes }
     {
         self.sizes.len()
+    }
+
+    /// How many slots the oldest message takes, and none where there is none.
+    pub fn oldest_size(&self) -> u32
+        ensures { result ≡ oldest_of self.now.sizes }
+    {
+        if self.sizes.len() == 0 {
+            return 0;
+        }
+        self.sizes.oldest()
     }
 
     // The number of the next message.
@@ -135,32 +136,23 @@ impl Ledger {
         ensures room { result ≡ room_for self.now length }
         ensures is { IsLedger self.now }
     {
-        let slots = self.slots;
-        if length > BODY_MOST as usize {
-            return Room::TooLong;
-        }
-        let size = size_of(length);
-        if size > slots {
-            return Room::TooLong;
-        }
-        if self.next() >= NUMBERS {
-            return Room::NumbersSpent;
-        }
-        if self.is_full(size) {
-            return Room::Full;
-        }
-        Room::Fits
+        let count = Count {
+            version: 2,
+            slots: self.slots,
+            next: self.next(),
+            len: self.len(),
+            used: self.sizes.used(),
+        };
+        count.room(length)
     }
 }
 
 // How many slots a body of this length takes.
 pub(crate) fn size_of(length: usize) -> u32
-    requires short { length ≤ 4081 }
-    ensures size { result ≡ slots_for length }
-    ensures small { result ≤ 65535 }
+    requires short { length ≤ 1048576 }
+    ensures size { result ≡ slots_of length }
+    ensures some { 1 ≤ result }
+    ensures small { result ≤ 257 }
 {
-    if length == 0 {
-        return 1;
-    }
-    ((length + 4080) / 4081) as u32
+    slots_for(length as u32)
 }

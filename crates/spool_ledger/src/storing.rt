@@ -107,18 +107,18 @@ impl Ledger {
         ensures line { out.new.line ≡ out.old.line }
     {
         let number = self.next();
-        let size = size_of(body.len());
+        let size = size_of(body.len()) as u16;
         out.notes
             .push(storing_note(alloc, number, stream, function)?)?;
         out.notes.push(stored_note(alloc, number)?)?;
-        self.sizes.push(size as u16)?;
-        let work = Work::Put {
+        let owed = self.works.len();
+        self.works.push(Work::Put {
             stream,
             function,
             body,
-        };
-        if let Err(none) = self.works.push(work) {
-            self.sizes.drop_newest();
+        })?;
+        if let Err(none) = self.sizes.push(size) {
+            self.works.truncate(owed);
             return Err(none);
         }
         Ok(())

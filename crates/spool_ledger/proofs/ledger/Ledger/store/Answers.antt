@@ -3,7 +3,7 @@
 use Rattle.std.proofs.Common.{rules, length, ◌≡◌, ◌++◌, ap, ℕ, ◌∙◌, Some}
 use Rattle.gem_spool.specs.declared.spool.Room.TheVariants.{Full}
 use Rattle.message_end.specs.Ends.{printed}
-use Rattle.spool_file.specs.Run.{slots_for}
+use Rattle.spool_file.specs.Sizes.{slots_for}
 use Rattle.spool_ledger.specs.Ledger.{LedgerView, room_for}
 use Rattle.spool_ledger.specs.Storing.{room_made, spooled}
 use Rattle.spool_ledger.proofs.Keeping.{makes_room}
