@@ -25,7 +25,7 @@ use Rattle.tool_step.specs.Equipment.{EquipmentView, act, begun_step, ended_step
 use Rattle.tool_step.proofs.StepFiles.{settled-mark}
 use Rattle.tool_law.specs.Laws.{DidOf}
 use Rattle.tool_step.specs.Step.{end_plan, first_parts}
-use Rattle.spool_ledger.specs.declared.ledger.Stand.{Stand}
+use Rattle.spool_ledger.specs.Ledger.{Numbered}
 use Rattle.spool_ledger.specs.Ledger.{carried_out}
 use Rattle.tool_law.proofs.TriedDoings.{AreNoTries, GiveNone, GoesTried, done-notes, quiet-done}
 use Rattle.spool_law.specs.Tries.{tries_in}
@@ -35,7 +35,7 @@ use Rattle.tool_law.proofs.StepHalves.{AreNone, At, FileAt, FileBegun, FileStepp
 module _ (plan : EquipmentPlan) (base : ℕ) (fits : EquipmentPlanFits plan) where
   -- the works are done: the disk has what was decided
   settled-at :
-      (slots : ℕ) (stood : Stand) (doings : List Doing) (now limit : ℕ) (input : Input ToolCommand)
+      (slots : ℕ) (stood : Numbered) (doings : List Doing) (now limit : ℕ) (input : Input ToolCommand)
       (Called : List LineCall → Type 0) (step : Step EquipmentView Happening)
       → FileAt plan base fits slots stood doings now limit input Called step
       → FileAt plan base fits slots (carried_out step.next.node.own.ledger).stood doings now limit input Called
@@ -61,7 +61,7 @@ module _ (plan : EquipmentPlan) (base : ℕ) (fits : EquipmentPlanFits plan) whe
 
   -- the whole step, from what was begun
   act-does :
-      (slots : ℕ) (stood : Stand) (doings : List Doing) (now limit : ℕ) (input : Input ToolCommand)
+      (slots : ℕ) (stood : Numbered) (doings : List Doing) (now limit : ℕ) (input : Input ToolCommand)
       (went : Went EquipmentView Happening)
       → OnEither (FileStepped plan base fits slots stood doings now limit input)
       (FileBegun plan base fits slots stood doings now limit input) went
@@ -182,7 +182,7 @@ module _ (plan : EquipmentPlan) (base : ℕ) (fits : EquipmentPlanFits plan) whe
       slots : ℕ
       slots = s.node.own.ledger.slots
 
-      stood : Stand
+      stood : Numbered
       stood = s.node.own.ledger.stood
 
       limit : ℕ
@@ -241,7 +241,7 @@ module _ (plan : EquipmentPlan) (base : ℕ) (fits : EquipmentPlanFits plan) whe
       slots : ℕ
       slots = s.node.own.ledger.slots
 
-      stood : Stand
+      stood : Numbered
       stood = s.node.own.ledger.stood
 
       none :

@@ -2,7 +2,7 @@
 use Rattle.std.proofs.Common.{append_assoc, ◌⊎◌, inl, inr, ◌≡◌, ◌≢◌, ◌+◌, refl, sym, ap, subst, ◌∙◌, arith, Bool, true, false, not, ℕ, ◌≤◌, ◌==◌, List, [], ◌∷◌, ◌++◌, length, replicate, Option, Some, None, if◌then◌else◌, zero, suc}
 use Rattle.std.specs.Option.{option_map}
 use Rattle.std.proofs.Math.Nat.{le_trans}
-use Rattle.std.specs.Prelude.{IfSome, slice_get}
+use Rattle.std.specs.Prelude.{IfSome, map, slice_get}
 use Rattle.std.proofs.lemmas.Bool.Decides.{nat_tests}
 use Rattle.std.proofs.lemmas.List.Elements.{All-nil, All-head}
 use Rattle.disk_base.specs.declared.cut.CutChoice.{CutChoice}
@@ -48,14 +48,14 @@ use Rattle.spool_works.specs.DiskWorks.{DiskWork, behind_change, fronts_of, up_t
 use Rattle.tool_step.specs.Disk.{stops, works_of}
 use Rattle.tool_step.specs.End.{machine}
 use Rattle.tool_step.specs.Losses.{losses}
-use Rattle.tool_step.specs.Equipment.{EquipmentView, act, begun_step, ended_step, is_marked_out, needs_numbers, new_own, node_step, oldest_of, parts_done, reserved, restarts, settled, settled_step, settled_went, started_on, starts, went_with_file}
+use Rattle.tool_step.specs.Equipment.{unstarted, EquipmentView, act, begun_step, ended_step, is_marked_out, needs_numbers, new_own, node_step, oldest_of, parts_done, reserved, restarts, settled, settled_step, settled_went, started_on, starts, went_with_file}
 use Rattle.spool_works.specs.Found.{first_in, found_in, spooled_of}
 use Rattle.tool_law.specs.Laws.{DidOf}
 use Rattle.tool_step.specs.Step.{begun, delay_timer, end_plan, first_parts, input_part, last_parts, late_parts, line_timer}
-use Rattle.spool_ledger.specs.declared.ledger.Stand.{Stand}
+use Rattle.spool_ledger.specs.Ledger.{Numbered}
 use Rattle.spool_ledger.specs.Ledger.{new_ledger}
 use Rattle.spool_file.specs.File.{SpoolFile}
-use Rattle.spool_file.specs.Slot.{Message as Kept}
+use Rattle.spool_file.specs.Slot.{Message as Kept, width}
 use Rattle.tool_step.specs.Live.{ReportView}
 use Rattle.tool_law.specs.Tried.{AreInTurn, newest_of}
 use Rattle.tool_law.proofs.TriedCores.{none-tried}
@@ -75,7 +75,7 @@ use Rattle.tool_law.proofs.KeptSteps.{begun-unended, goes-on}
 abbrev IsAny : Option ℕ → Type 0
 IsAny tried = Unit {0}
 
-module _ (plan : EquipmentPlan) (fits : EquipmentPlanFits plan) (slots : ℕ) (stood : Stand) where
+module _ (plan : EquipmentPlan) (fits : EquipmentPlanFits plan) (slots : ℕ) (stood : Numbered) where
   any-held : (own : OwnView) → IsSound plan slots stood own → IsHeld plan slots stood IsAny own
   any-held own sound = record {
     plan_is = sound.plan_is;
@@ -340,9 +340,9 @@ fronts-are (DiskWork.Change one ∷ works) before notes front has =
       whole = whole ∙ ap (λ (ns : List Happening). ns ++ behind_change notes) (sym same);
     }
     go (inr has) more = subst (λ (ns : List Happening). IsFront front ns) (sym whole) (more has)
-fronts-are (DiskWork.ReadOldest ∷ works) before notes front (inl same) =
+fronts-are (DiskWork.ReadOldest slots ∷ works) before notes front (inl same) =
     subst (λ (f : List Happening). IsFront f (before ++ notes)) (sym same) (front-same (before ++ notes))
-fronts-are (DiskWork.ReadOldest ∷ works) before notes front (inr has) = fronts-are works before notes front has
+fronts-are (DiskWork.ReadOldest slots ∷ works) before notes front (inr has) = fronts-are works before notes front has
 
 -- what was noted up to the works stands in front
 pub act-grows : (went : Went EquipmentView Happening) (now : ℕ)
@@ -399,7 +399,7 @@ module _ (plan : EquipmentPlan) (fits : EquipmentPlanFits plan) where
       }
     where
       own : OwnView
-      own = new_own plan (new_ledger file.slots (first_in file) (length file.list))
+      own = new_own plan (new_ledger file.slots (first_in file) (map width file.list))
 
       sound : IsSound plan file.slots own.ledger.stood own
       sound = record {
@@ -407,7 +407,7 @@ module _ (plan : EquipmentPlan) (fits : EquipmentPlanFits plan) where
         texts = All-nil (λ (one : GrantView). IsText one.body);
         traced = All-nil (λ (one : GrantView). IsText one.body);
         reports = All-nil (λ (one : ReportView). CanBeSent one.message);
-        ledger = new-good file.slots (first_in file) (length file.list);
+        ledger = new-good file.slots (first_in file) (map width file.list);
       }
 
   pub starts-at : (file : SpoolFile) (least : ℕ) → AllCanBeSent file.list → least ≤ file.mark.value
@@ -416,7 +416,7 @@ module _ (plan : EquipmentPlan) (fits : EquipmentPlanFits plan) where
     where
       go : (spent : Bool) → is_marked_out file.mark.value ≡ spent
           → OnStart (HasStarted (end_plan plan) (DidOf plan) least)
-          (if spent then Spent (at_first (record (started_on plan file).next { file = file }))
+          (if spent then Spent (at_first (unstarted plan file))
           else Goes (started_on plan file))
       go true is = refl
       go false is =
@@ -590,7 +590,7 @@ lawful-so plan file fits can loses = record {
     begins first step = go (is_marked_out file.mark.value)
       where
         go : (spent : Bool)
-            → (if spent then Spent (at_first (record (started_on plan file).next { file = file }))
+            → (if spent then Spent (at_first (unstarted plan file))
             else Goes (started_on plan file)) ≡ Goes first
             → act first.next Time 0 ≢ Spent step
         go true is = absurd (cc)

@@ -36,6 +36,7 @@ use Rattle.tool_step.proofs.StepFiles.{ended-file, parts-file, settled-mark}
 use Rattle.spool_works.proofs.EachLoss.{each-work}
 use Rattle.spool_works.proofs.LossCounts.{Each}
 use Rattle.tool_step.specs.Losses.{left_as}
+use Rattle.spool_ledger.specs.Sizes.{oldest_of}
 use Rattle.tool_law.specs.Sound.{AllCanBeSent, PutsGood}
 use Rattle.spool_works.specs.WorkLosses.{calls_at}
 use Rattle.tool_law.proofs.SpoolSound.{list-good}
@@ -53,10 +54,11 @@ ended-mark went now =
 
 -- ---- what is left at each call
 
--- the messages that are left can be sent, there are as many slots as there were, and the mark is no lower than it was;
+-- the messages that are left can be sent, version and slots are as they were, and the mark is no lower than it was;
 -- behind a note it is no lower than this
 pub record IsLeftWell (was : SpoolFile) (last : ℕ) (front : List Happening) (file : SpoolFile) : Type 0 where
   pub can : AllCanBeSent file.list
+  pub version_is : file.version ≡ was.version
   pub slots_are : file.slots ≡ was.slots
   pub above : was.mark.value ≤ file.mark.value
   pub most : (front ≡ []) ⊎ (last ≤ file.mark.value)
@@ -70,9 +72,16 @@ module _ (was : SpoolFile) (last : ℕ) where
       → Each (LeavesWell front) (calls_at st (Change one))
   work-well front st one good is =
       each-work (IsLeftWell was last front) st (Change one) is
-      (record { can = is.can; slots_are = is.slots_are; above = is.above; most = is.most })
+      (λ gates. record {
+        can = is.can;
+        version_is = is.version_is;
+        slots_are = is.slots_are;
+        above = is.above;
+        most = is.most;
+      })
       (record {
         can = list-good st.next st.file.list one is.can good;
+        version_is = is.version_is;
         slots_are = is.slots_are;
         above = is.above;
         most = is.most;
@@ -81,21 +90,43 @@ module _ (was : SpoolFile) (last : ℕ) where
   -- the messages can be sent, and the mark is high enough whatever was noted
   record IsHighEnough (file : SpoolFile) : Type 0 where
     can : AllCanBeSent file.list
+    version_is : file.version ≡ was.version
     slots_are : file.slots ≡ was.slots
     above : was.mark.value ≤ file.mark.value
     most : last ≤ file.mark.value
 
   at-mark : (front : List Happening) (file : SpoolFile) → IsHighEnough file → IsLeftWell was last front file
-  at-mark front file is =
-      record { can = is.can; slots_are = is.slots_are; above = is.above; most = inr is.most }
+  at-mark front file is = record {
+    can = is.can;
+    version_is = is.version_is;
+    slots_are = is.slots_are;
+    above = is.above;
+    most = inr is.most;
+  }
 
   read-well :
       (went : Went EquipmentView Happening) (st : Standing) (before notes : List Happening) → IsHighEnough st.file
       → AtEach LeavesWell st before (read_works went) notes
   read-well (Goes step) st before notes is = go (takes_up step.next.node.own)
     where
-      go : (takes : Bool) → AtEach LeavesWell st before (if takes then ReadOldest ∷ [] else []) notes
-      go true = ((λ choice. at-mark (before ++ notes) st.file is, tt), tt)
+      size : ℕ
+      size = oldest_of step.next.node.own.ledger.sizes
+
+      left : IsLeftWell was last (before ++ notes) st.file
+      left = at-mark (before ++ notes) st.file is
+
+      go : (takes : Bool) → AtEach LeavesWell st before (if takes then ReadOldest size ∷ [] else []) notes
+      go true = (
+        each-work (IsLeftWell was last (before ++ notes)) st (ReadOldest size) left
+            (λ gates. record {
+              can = left.can;
+              version_is = left.version_is;
+              slots_are = left.slots_are;
+              above = left.above;
+              most = left.most;
+            }) left,
+        tt,
+      )
       go false = tt
   read-well (Spent step) st before notes is = tt
 
@@ -110,6 +141,7 @@ module _ (was : SpoolFile) (last : ℕ) where
         works-well works went (standing_after st one) front (behind_change notes) (All-tail PutsGood one works good)
             (record {
               can = list-good st.next st.file.list one is.can (All-head PutsGood one works good);
+              version_is = is.version_is;
               slots_are = is.slots_are;
               above = is.above;
               most = is.most;
@@ -123,9 +155,9 @@ reserve-well :
     → AtEach (LeavesWell s.file (s.file.mark.value + 4096)) (standing_in s) [] (Reserve ∷ works) notes
 reserve-well s works notes can rest = (
   each-work (IsLeftWell s.file (s.file.mark.value + 4096) []) (standing_in s) Reserve
-      (record { can = can; slots_are = refl; above = omega arith; most = inl refl })
-      (record { can = can; slots_are = refl; above = omega arith; most = inl refl })
-      (record { can = can; slots_are = refl; above = omega arith; most = inl refl }),
+      (record { can = can; version_is = refl; slots_are = refl; above = omega arith; most = inl refl })
+      (λ gates. record { can = can; version_is = refl; slots_are = refl; above = omega arith; most = inl refl })
+      (record { can = can; version_is = refl; slots_are = refl; above = omega arith; most = inl refl }),
   rest,
 )
 
@@ -163,7 +195,7 @@ module _ (plan : EquipmentPlan) (fits : EquipmentPlanFits plan) where
           (step_in (begun needs spent)).notes
       go true true so =
           behind s (begun true true) s.file.mark.value so
-          (record { can = good.list; slots_are = refl; above = omega arith; most = omega arith })
+          (record { can = good.list; version_is = refl; slots_are = refl; above = omega arith; most = omega arith })
       go true false so =
           let mark =
           ap (λ (file : SpoolFile). file.mark.value)
@@ -175,7 +207,7 @@ module _ (plan : EquipmentPlan) (fits : EquipmentPlanFits plan) where
           (sym mark)
           (reserve-well s (works_behind (begun true false)) (step_in (begun true false)).notes good.list
           (behind (reserved s) (begun true false) (s.file.mark.value + 4096) so
-          (record { can = good.list; slots_are = refl; above = omega arith; most = omega arith })))
+          (record { can = good.list; version_is = refl; slots_are = refl; above = omega arith; most = omega arith })))
       go false spent so =
           let mark =
           ap (λ (file : SpoolFile). file.mark.value)
@@ -186,7 +218,7 @@ module _ (plan : EquipmentPlan) (fits : EquipmentPlanFits plan) where
           (step_in (begun false spent)).notes)
           (sym mark)
           (behind s (begun false spent) s.file.mark.value so
-          (record { can = good.list; slots_are = refl; above = omega arith; most = omega arith }))
+          (record { can = good.list; version_is = refl; slots_are = refl; above = omega arith; most = omega arith }))
 
   -- ---- a start anew behind what was done
 

@@ -17,7 +17,6 @@ pub mod SpentCauses
 pub mod SpentRuns
 pub mod SpoolSound
 pub mod StepHalves
-pub mod StepsWriteFew
 pub mod TriedCores
 pub mod TriedCourse
 pub mod TriedDoings

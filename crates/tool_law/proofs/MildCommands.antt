@@ -29,7 +29,7 @@ use Rattle.tool_law.proofs.SpoolSound.{AllPlain}
 use Rattle.tool_step.specs.Equipment.{is_marked_out}
 use Rattle.equipment_tables.specs.Tables.{TablesState}
 use Rattle.equipment_tables.proofs.Lines.{lines_hold}
-use Rattle.spool_ledger.specs.declared.ledger.Stand.{Stand}
+use Rattle.spool_ledger.specs.Ledger.{Numbered}
 use Rattle.tool_law.proofs.TriedDoings.{IsFine, fine-both}
 use Rattle.tool_law.proofs.CommandWalks.{HasCommon, lines-are, replied-are}
 use Rattle.tool_law.proofs.TriedSteps.{IsMild, IsMildCommand}
@@ -168,7 +168,7 @@ marks-on end mark same room = grind (arith, nat_tests, same, room)
 -- ---- turns
 
 -- it is sound over what the disk has
-pub sound-self : (plan : EquipmentPlan) (slots : ℕ) (stood : Stand) (own : OwnView) → IsSound plan slots stood own
+pub sound-self : (plan : EquipmentPlan) (slots : ℕ) (stood : Numbered) (own : OwnView) → IsSound plan slots stood own
     → IsSound plan own.ledger.slots own.ledger.stood own
 sound-self plan slots stood own sound = record {
   plan_is = sound.plan_is;

@@ -46,7 +46,7 @@ use Rattle.tool_law.proofs.SpoolSound.{All-snoc, IsGoodBooked, stored-good}
 use Rattle.tool_step.specs.States as states
 use Rattle.tool_step.specs.Step.{begun, beginning, failed_turn, flow_turn, is_spent, long_turn, took_turn}
 use Rattle.equipment_tables.specs.Tables.{alarm_after, overwrites, set_after}
-use Rattle.spool_ledger.specs.declared.ledger.Stand.{Stand}
+use Rattle.spool_ledger.specs.Ledger.{Numbered}
 use Rattle.spool_ledger.specs.Ledger.{Booked}
 use Rattle.spool_ledger.specs.Storing.{stored}
 use Rattle.tool_step.specs.Tool.{alarm_line, alarm_report_turn, alarm_turn, attempt_turn, attempted_turn, command_turn, enabled_turn, known_event_turn, online_turn, set_turn, told_turn, with_event}
@@ -56,7 +56,7 @@ use Rattle.tool_law.proofs.QuietTurns.{Sound, Quiet, text-is, kept, fixed-quiet,
 use Rattle.tool_law.proofs.QuietMessages.{error-quiet, timeout-quiet, given-up-quiet, going-quiet, error-is-quiet, message-quiet}
 
 module _ (plan : EquipmentPlan) (TriedIs : Option ℕ → Type 0) (fits : EquipmentPlanFits plan) (slots : ℕ)
-    (stood : Stand)
+    (stood : Numbered)
   where
     -- ---- the line
 

@@ -47,7 +47,7 @@ use Rattle.tool_law.proofs.SpoolSound.{All-snoc, all-out-good, confirmed-good, l
 use Rattle.tool_step.specs.States as states
 use Rattle.equipment_tables.specs.Tables.{most_transmitted, tables_after}
 use Rattle.spool_ledger.specs.Activity.{rested, rsda_of}
-use Rattle.spool_ledger.specs.declared.ledger.Stand.{Stand}
+use Rattle.spool_ledger.specs.Ledger.{Numbered}
 use Rattle.spool_ledger.specs.Storing.{all_out}
 use Rattle.spool_ledger.specs.Unloading.{after_next, confirmed, fresh, let_go, next_number as next_unloaded, taken_up, waiting_in, with_each, with_unload}
 use Rattle.tool_step.specs.Live.{ReportView}
@@ -58,7 +58,7 @@ use Rattle.tool_law.proofs.QuietSamples.{granted-trace-quiet, waiting-trace-is}
 use Rattle.tool_law.proofs.QuietTurns.{Sound, Quiet, AreQuiet, text-is, kept, ungranted, unreported, untraced, booked-sound, unloaded-sound, waiting-can, kept-or-ended, fixed-quiet, nothing-quiet, note-quiet, led-quiet, before-quiet, booked-quiet, comms-quiet, control-quiet, leaving-quiet}
 
 module _ (plan : EquipmentPlan) (TriedIs : Option ℕ → Type 0) (fits : EquipmentPlanFits plan) (slots : ℕ)
-    (stood : Stand)
+    (stood : Numbered)
   where
     -- ---- errors and answers
 

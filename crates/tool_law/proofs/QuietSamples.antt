@@ -20,13 +20,13 @@ use Rattle.tool_step.specs.Reports.{unreported_turn}
 use Rattle.tool_step.specs.Sampling.{first_turn, granted_trace_turn, data_inquiry_own, data_inquiry_turn, made_part, sampled_text_turn, sampled_turn, sampling, trace_data, trace_data_turn, trace_grant_turn, trace_inquiry, trace_name, trace_sent_turn, with_data_inquiry, with_made}
 use Rattle.tool_step.specs.Sent as sent
 use Rattle.tool_step.specs.Spooling.{dataid_in}
-use Rattle.spool_ledger.specs.declared.ledger.Stand.{Stand}
+use Rattle.spool_ledger.specs.Ledger.{Numbered}
 use Rattle.tool_law.proofs.MildCommands.{IsSpelled, may-inquire, may-trace}
 use Rattle.tool_law.proofs.QuietTurns.{Sound, Quiet, text-is, kept, fixed-quiet, nothing-quiet, note-quiet}
 use Rattle.tool_law.proofs.SpoolSound.{All-snoc}
 
 module _ (plan : EquipmentPlan) (TriedIs : Option ℕ → Type 0) (fits : EquipmentPlanFits plan) (slots : ℕ)
-    (stood : Stand)
+    (stood : Numbered)
   where
     -- ---- the samples
 

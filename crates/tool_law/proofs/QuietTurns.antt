@@ -36,7 +36,7 @@ use Rattle.tool_law.proofs.SpoolSound.{IsGoodBooked, IsGoodStores, activated-goo
 use Rattle.tool_step.specs.States as states
 use Rattle.tool_step.specs.Step.{begun}
 use Rattle.equipment_tables.specs.Tables.{may_spool, overwrites}
-use Rattle.spool_ledger.specs.declared.ledger.Stand.{Stand}
+use Rattle.spool_ledger.specs.Ledger.{Numbered}
 use Rattle.spool_ledger.specs.Ledger.{Booked, LedgerView}
 use Rattle.spool_ledger.specs.Unloading.{with_unload}
 use Rattle.tool_step.specs.Live.{ReportView}
@@ -47,7 +47,7 @@ use Rattle.tool_law.proofs.TriedSteps.{AreMildDuties, IsMild, IsMildCommand}
 use Rattle.tool_law.proofs.MildCommands.{IsSpelled, can-event, common-mild, lines-quiet, may-establish, one-note, sent-quiet, spelled}
 
 module _ (plan : EquipmentPlan) (TriedIs : Option ℕ → Type 0) (fits : EquipmentPlanFits plan) (slots : ℕ)
-    (stood : Stand)
+    (stood : Numbered)
   where
     abbrev pub Sound : OwnView → Type 0
     Sound = IsHeld plan slots stood TriedIs

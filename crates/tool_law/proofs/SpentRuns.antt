@@ -1,6 +1,6 @@
 -- The worked steps whose numbers are spent, computed.
 use Rattle.std.specs.Prelude.{refl}
-use Rattle.spool_file.specs.Run.{slots_for}
+use Rattle.spool_file.specs.Sizes.{slots_for}
 use Rattle.tool_law.specs.Putting.{late_puts, sample_puts}
 use Rattle.tool_step.specs.Sampling.{sample_parts}
 use Rattle.tool_step.specs.Step.{late_parts}

@@ -11,20 +11,21 @@ use Rattle.gem_spool.specs.declared.works.Work.TheVariants as work
 use Rattle.gem_spool.specs.Standing.{Standing}
 use Rattle.gem_spool.specs.Works.{list_after, standing_after, standings_after}
 use Rattle.spool_file.specs.File.{SpoolFile}
-use Rattle.spool_file.specs.Run.{slots_for}
 use Rattle.spool_file.specs.Slot.{Message}
 use Rattle.trace_log.specs.declared.names.Cause.{Cause}
 use Rattle.trace_log.specs.declared.names.Cause.TheVariants.{Confirmed, Overwritten, Purged}
 use Rattle.trace_log.specs.Log.{Happening}
 use Rattle.trace_log.specs.Names.{Spooled}
 use Rattle.message_end.specs.Core.{IsText}
-use Rattle.spool_ledger.specs.declared.ledger.Stand.{Stand}
+use Rattle.spool_ledger.specs.Ledger.{Numbered}
 use Rattle.spool_ledger.specs.declared.unload.Tried.{Tried}
 use Rattle.spool_ledger.specs.declared.unload.Unload.{Unload}
 use Rattle.spool_ledger.specs.Activity.{activated, changed, is_done, rested}
-use Rattle.spool_ledger.specs.Ledger.{Booked, LedgerView, and_then, carried_out, is_full, new_ledger, next_of, owed, quiet, room_by, room_for, size_of}
-use Rattle.spool_ledger.specs.Storing.{all_out, oldest_of, oldest_out, put, room_made, stored, stored_by, with_room}
+use Rattle.spool_ledger.specs.Ledger.{Booked, LedgerView, and_then, carried_out, is_full, new_ledger, next_of, owed, quiet, room_for, size_of}
+use Rattle.spool_ledger.specs.Sizes.{oldest_of}
+use Rattle.spool_ledger.specs.Storing.{all_out, oldest_out, put, room_made, stored, stored_by, with_room}
 use Rattle.spool_ledger.proofs.Keeping.{made_if}
+use Rattle.spool_ledger.proofs.Limits.{fits_within, full_within, within_short}
 use Rattle.spool_ledger.specs.Unloading.{after_next, confirmed, counted, is_oldest_tried, is_over, let_go, settled, taken_up, trying, unload_next, waiting_in, with_each, with_unload}
 use Rattle.tool_step.specs.Equipment.{settled_file}
 use Rattle.spool_works.specs.Found.{spooled_of}
@@ -45,11 +46,11 @@ All-snoc P (first ∷ xs) last all is =
 
 -- ---- what a call brings
 
-pub record IsGoodBooked (slots : ℕ) (stood : Stand) (booked : Booked) : Type 0 where
+pub record IsGoodBooked (slots : ℕ) (stood : Numbered) (booked : Booked) : Type 0 where
   pub next : IsGoodLedger slots stood booked.next
   pub plain : AllPlain booked.lines
 
-pub record IsGoodStores (slots : ℕ) (stood : Stand) (stores : Stores) : Type 0 where
+pub record IsGoodStores (slots : ℕ) (stood : Numbered) (stores : Stores) : Type 0 where
   pub next : IsGoodLedger slots stood stores.next
   pub plain : AllPlain stores.lines
 
@@ -93,34 +94,23 @@ next-waits most v (Some unload) is = go (is_none unload.tried && is_over most v 
 
 -- ---- what is put
 
--- where a body is put a slot has room for it
+-- where a body is put it has at most a mebibyte
 abbrev IsShortFor : Room → ℕ → Type 0
-IsShortFor room.Fits long = long ≤ 4081
-IsShortFor room.Full long = long ≤ 4081
+IsShortFor room.Fits long = long ≤ 1048576
+IsShortFor room.Full long = long ≤ 1048576
 IsShortFor room.TooLong long = Unit {0}
 IsShortFor room.NumbersSpent long = Unit {0}
 
 room-short : (v : LedgerView) (long : ℕ) → IsShortFor (room_for v long) long
-room-short v long =
-    go (nat_lt 4081 long || nat_lt v.slots (slots_for long)) (nat_le (2 ^ 63) (next_of v))
-    (is_full v.slots v.sizes (slots_for long)) refl
+room-short v long = go (room_for v long) refl
   where
-    short : (too more : Bool) → (too || more) ≡ false → too ≡ false
-    short true more none = absurd (grind (arith, none))
-    short false more none = refl
+    go : (room : Room) → room_for v long ≡ room → IsShortFor room long
+    go room.Fits fits = (within_short v long (fits_within v long fits).0).0
+    go room.Full full = (within_short v long (full_within v long full).0).0
+    go room.TooLong long = tt
+    go room.NumbersSpent spent = tt
 
-    is-short : (nat_lt 4081 long || nat_lt v.slots (slots_for long)) ≡ false → long ≤ 4081
-    is-short none =
-        let fits = short (nat_lt 4081 long) (nat_lt v.slots (slots_for long)) none in grind (arith, nat_tests, fits)
-
-    go : (never spent full : Bool) → (nat_lt 4081 long || nat_lt v.slots (slots_for long)) ≡ never
-        → IsShortFor (room_by never spent full) long
-    go true spent full e = tt
-    go false true full e = tt
-    go false false true e = is-short e
-    go false false false e = is-short e
-
-module _ {slots : ℕ} {stood : Stand} where
+module _ {slots : ℕ} {stood : Numbered} where
   booked-then :
       (booked : Booked) (call : LedgerView → Booked) → IsGoodBooked slots stood booked
       → ((v : LedgerView) → IsGoodLedger slots stood v → IsGoodBooked slots stood (call v)) → IsGoodBooked slots stood
@@ -138,7 +128,7 @@ module _ {slots : ℕ} {stood : Stand} where
   owes-more : (v : LedgerView) (one : Work) → IsGoodLedger slots stood v → PutsGood one → All PutsGood (owed v one)
   owes-more v one is good = All-snoc PutsGood v.works one is.works good
 
-  put-good : (message : Spooled) (v : LedgerView) → CanBeSent message → length message.body ≤ 4081
+  put-good : (message : Spooled) (v : LedgerView) → CanBeSent message → length message.body ≤ 1048576
       → IsGoodLedger slots stood v → IsGoodBooked slots stood (put message v)
   put-good message v can short is = record {
     next = record {
@@ -316,14 +306,14 @@ module _ {slots : ℕ} {stood : Stand} where
 -- ---- starts, and what the disk has done
 
 pub new-good :
-    (slots first len : ℕ)
-    → IsGoodLedger slots (new_ledger slots first len).stood (new_ledger slots first len)
-new-good slots first len =
+    (slots first : ℕ) (sizes : List ℕ)
+    → IsGoodLedger slots (new_ledger slots first sizes).stood (new_ledger slots first sizes)
+new-good slots first sizes =
     record { waiting = tt; works = All-nil PutsGood; slots_are = refl; stood_is = refl }
 
 -- the disk has then what was decided
 pub carried-good :
-    {slots : ℕ} {stood : Stand} (v : LedgerView) → IsGoodLedger slots stood v
+    {slots : ℕ} {stood : Numbered} (v : LedgerView) → IsGoodLedger slots stood v
     → IsGoodLedger slots (carried_out v).stood (carried_out v)
 carried-good v is =
     record { waiting = is.waiting; works = All-nil PutsGood; slots_are = is.slots_are; stood_is = refl }
@@ -349,6 +339,6 @@ lists-good st (one ∷ works) all is =
     (list-good st.next st.file.list one all (All-head PutsGood one works is)) (All-tail PutsGood one works is)
 
 pub settled-good :
-    {slots : ℕ} {stood : Stand} (v : LedgerView) (file : SpoolFile) → IsGoodLedger slots stood v
+    {slots : ℕ} {stood : Numbered} (v : LedgerView) (file : SpoolFile) → IsGoodLedger slots stood v
     → AllCanBeSent file.list → AllCanBeSent (settled_file v file).list
 settled-good v file is all = lists-good _ v.works all is.works

@@ -37,7 +37,7 @@ use Rattle.tool_law.specs.Laws.{DidOf}
 use Rattle.tool_step.specs.Sampling.{made_part, sample_parts, sampling}
 use Rattle.tool_step.specs.Step.{beginning, delay_timer, end_plan, failed_turn, first_parts, input_part, last_parts, late_parts, line_timer, offer, took_turn}
 use Rattle.equipment_tables.specs.Tables.{most_transmitted}
-use Rattle.spool_ledger.specs.declared.ledger.Stand.{Stand}
+use Rattle.spool_ledger.specs.Ledger.{Numbered}
 use Rattle.spool_ledger.specs.Unloading.{after_next, next_number as next_unloaded, taken_up}
 use Rattle.spool_file.specs.Slot.{Message as Kept}
 use Rattle.tool_law.specs.Tried.{AreInTurn, newest_of}
@@ -53,10 +53,10 @@ use Rattle.tool_law.proofs.QuietCommands.{failed-is-quiet, took-quiet, told-quie
 -- ---- the halves of a step
 
 -- what is kept beside the core, with these tries
-abbrev pub HeldAt : EquipmentPlan → ℕ → Stand → List ℕ → OwnView → Type 0
+abbrev pub HeldAt : EquipmentPlan → ℕ → Numbered → List ℕ → OwnView → Type 0
 HeldAt plan slots stood tries own = IsHeld plan slots stood (λ tried. tried ≡ newest_of tries) own
 
-held-sound : (plan : EquipmentPlan) (slots : ℕ) (stood : Stand) (tries : List ℕ) (own : OwnView)
+held-sound : (plan : EquipmentPlan) (slots : ℕ) (stood : Numbered) (tries : List ℕ) (own : OwnView)
     → HeldAt plan slots stood tries own → IsSound plan slots stood own
 held-sound plan slots stood tries own held =
     record {
@@ -93,7 +93,7 @@ begun-stepped :
     (input : Input ToolCommand) (now : ℕ) (made : List LineCall) → AreOfStep input now made → AreBegunOf input now made
 begun-stepped input now made of_step = record { later = []; whole = of_step }
 
-module _ (plan : EquipmentPlan) (base : ℕ) (fits : EquipmentPlanFits plan) (slots : ℕ) (stood : Stand) where
+module _ (plan : EquipmentPlan) (base : ℕ) (fits : EquipmentPlanFits plan) (slots : ℕ) (stood : Numbered) where
   -- with the numbers that end here
   module _ (doings : List Doing) (now limit : ℕ) (input : Input ToolCommand) where
     abbrev ToolStep : Type 0

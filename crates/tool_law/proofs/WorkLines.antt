@@ -1,6 +1,7 @@
 -- The works that a step owes so far, and the lines that it has noted of them, in step: up to the line before each work
 -- the shelf stands as the list that the works before it make.
 use Rattle.std.proofs.Common.{◌≡◌, refl, sym, ap, subst, ◌∙◌, append_assoc, append-nil, ◌+◌, Bool, true, false, ℕ, List, [], ◌∷◌, ◌++◌, if◌then◌else◌}
+use Rattle.std.specs.Prelude.{sum}
 use Rattle.gem_spool.specs.Works.{count_after, counts_after, list_after, lists_after, next_after}
 use Rattle.gem_spool.specs.declared.count.Count.{Count}
 use Rattle.gem_spool.specs.declared.works.Work.{Work}
@@ -8,7 +9,7 @@ use Rattle.message_end.specs.Course.{noted_behind}
 use Rattle.message_end.proofs.Growing.{behind-both}
 use Rattle.spool_law.specs.Shelf.{Change, Shelf, change_of, shelf_of}
 use Rattle.spool_ledger.specs.Ledger.{IsLedger, LedgerView, next_of, owed, stood_count}
-use Rattle.spool_ledger.specs.declared.ledger.Stand.{Stand}
+use Rattle.spool_ledger.specs.Ledger.{Numbered}
 use Rattle.spool_file.specs.Slot.{Message}
 use Rattle.trace_log.specs.Log.{Happening, is_before_change}
 use Rattle.spool_works.specs.DiskWorks.{DiskWork, behind_change, up_to_change}
@@ -238,7 +239,7 @@ lines-as v w list base notes stood works are = record {
   lines = are.lines;
   noted = are.noted;
   walks =
-      subst (λ (at : Stand). Walks at.next list base w.works are.lines) (sym stood)
+      subst (λ (at : Numbered). Walks (at.first + sum at.sizes) list base w.works are.lines) (sym stood)
       (subst (λ (ws : List Work). Walks (stood_count v).next list base ws are.lines) (sym works) are.walks);
 }
 

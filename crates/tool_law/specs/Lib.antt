@@ -4,4 +4,3 @@ pub mod Sound
 pub mod SpentSteps
 pub mod Tried
 pub mod WorkedSpent
-pub mod WritesFew

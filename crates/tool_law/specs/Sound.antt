@@ -6,7 +6,7 @@ use Rattle.spool_file.specs.Slot.{Message}
 use Rattle.trace_log.specs.Names.{Spooled}
 use Rattle.message_end.specs.Core.{IsText}
 use Rattle.equipment_tables.specs.declared.plan.EquipmentPlan.{EquipmentPlan}
-use Rattle.spool_ledger.specs.declared.ledger.Stand.{Stand}
+use Rattle.spool_ledger.specs.Ledger.{Numbered}
 use Rattle.spool_ledger.specs.Ledger.{LedgerView}
 use Rattle.spool_ledger.specs.Storing.{spooled}
 use Rattle.spool_ledger.specs.Unloading.{waiting_in}
@@ -23,13 +23,13 @@ pub record CanBeSent (message : Spooled) : Type 0 where
 
 -- so is what is put into the spool, and a slot has room for it
 abbrev pub PutsGood : Work → Type 0
-PutsGood (work.Put stream function body) = CanBeSent (spooled stream function body) × (length body ≤ 4081)
+PutsGood (work.Put stream function body) = CanBeSent (spooled stream function body) × (length body ≤ 1048576)
 PutsGood (work.DropOldest slots) = Unit {0}
 PutsGood work.Purge = Unit {0}
 
 -- what waits for a grant, and what is put there, can be sent; and the works are owed behind what the
 -- disk has: so many slots, and these messages
-pub record IsGoodLedger (slots : ℕ) (stood : Stand) (ledger : LedgerView) : Type 0 where
+pub record IsGoodLedger (slots : ℕ) (stood : Numbered) (ledger : LedgerView) : Type 0 where
   pub waiting : IfSome (waiting_in ledger.unload) IsText
   pub works : All PutsGood ledger.works
   pub slots_are : ledger.slots ≡ slots
@@ -37,7 +37,7 @@ pub record IsGoodLedger (slots : ℕ) (stood : Stand) (ledger : LedgerView) : Ty
 
 -- the plan stays; and whatever is kept for later can be sent: the S6F11 and S6F1 that wait for S6F6, what was sent and
 -- may be put into the spool, and what the ledger has
-pub record IsSound (plan : EquipmentPlan) (slots : ℕ) (stood : Stand) (own : OwnView) : Type 0 where
+pub record IsSound (plan : EquipmentPlan) (slots : ℕ) (stood : Numbered) (own : OwnView) : Type 0 where
   pub plan_is : own.plan ≡ plan
   pub texts : All (λ waiting. IsText waiting.body) own.for_grant
   pub traced : All (λ waiting. IsText waiting.body) own.tracing.for_grant
@@ -46,7 +46,7 @@ pub record IsSound (plan : EquipmentPlan) (slots : ℕ) (stood : Stand) (own : O
 
 -- the same, with such system bytes of the last try
 pub record IsHeld
-    (plan : EquipmentPlan) (slots : ℕ) (stood : Stand) (TriedIs : Option ℕ → Type 0) (own : OwnView) : Type 0 where
+    (plan : EquipmentPlan) (slots : ℕ) (stood : Numbered) (TriedIs : Option ℕ → Type 0) (own : OwnView) : Type 0 where
   pub plan_is : own.plan ≡ plan
   pub texts : All (λ waiting. IsText waiting.body) own.for_grant
   pub traced : All (λ waiting. IsText waiting.body) own.tracing.for_grant

@@ -1,6 +1,6 @@
 -- Steps that end with their numbers spent, followed by hand.
 use Rattle.std.specs.Prelude.{◌≡◌, ◌-◌, ◌^◌, ℕ, true, false, [], ◌∷◌}
-use Rattle.spool_slots.specs.Changes.{with_mark}
+use Rattle.spool_slots.specs.Files.{with_mark}
 use Rattle.message_end.specs.Ends.Input.{Time}
 use Rattle.tool_step.specs.Equipment.{EquipmentView, act, with_core}
 use Rattle.tool_law.specs.Putting.{line_timer_puts}

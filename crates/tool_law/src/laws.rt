@@ -1,22 +1,13 @@
-//! That the equipment keeps the law of an end, and what its steps draw and write.
+//! That the equipment keeps the law of an end, and what its steps draw.
 
 ghost use Rattle.tool_law.specs.Laws.{EquipmentKeepsItsLaw};
 ghost use Rattle.tool_law.specs.SpentSteps.{DrawsFew, SpentByCause};
 ghost use Rattle.tool_law.specs.WorkedSpent.{NumbersEnd};
-ghost use Rattle.spool_works.specs.WritesFew.{NoneWritesMore};
-ghost use Rattle.tool_law.specs.WritesFew.{StepsWriteFew};
 
 /// Whatever the equipment is told in its steps, it keeps the law of an end, as the host does: what a world of two such
 /// ends delivers is what was sent. Its first step has numbers to draw.
 pub fn equipment_keeps_the_law()
     ensures { EquipmentKeepsItsLaw }
-{}
-
-/// A step writes no more than 1,024 bytes for each call of its disk, and never 3,072 more by one of them. So behind a
-/// start that writes so much less, 65,536 calls write no more than 64 MiB.
-pub fn steps_write_few()
-    ensures steps { StepsWriteFew }
-    ensures more { NoneWritesMore }
 {}
 
 /// A step draws fewer than 128 system bytes, whatever it is given. So its numbers are spent exactly where it needs more

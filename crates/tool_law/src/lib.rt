@@ -3,6 +3,4 @@
 
 mod laws;
 
-pub use laws::{
-    equipment_keeps_the_law, steps_are_spent_by_cause, steps_write_few, worked_spent_steps,
-};
+pub use laws::{equipment_keeps_the_law, steps_are_spent_by_cause, worked_spent_steps};

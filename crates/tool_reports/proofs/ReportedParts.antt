@@ -134,9 +134,9 @@ front-due plan base (Change one ∷ works) before notes front none all has =
         → due_behind plan (noted_behind front base) ≡ None
     go (inl same) more = ap (λ (ns : List Happening). due_behind plan (noted_behind ns base)) same ∙ here
     go (inr has) more = more has
-front-due plan base (ReadOldest ∷ works) before notes front none all (inl same) =
+front-due plan base (ReadOldest slots ∷ works) before notes front none all (inl same) =
     ap (λ (ns : List Happening). due_behind plan (noted_behind ns base)) same ∙ all
-front-due plan base (ReadOldest ∷ works) before notes front none all (inr has) =
+front-due plan base (ReadOldest slots ∷ works) before notes front none all (inr has) =
     front-due plan base works before notes front none all has
 
 module _ (plan : EquipmentPlan) (fits : EquipmentPlanFits plan) (looked : TablesAreLookedBackFor) where

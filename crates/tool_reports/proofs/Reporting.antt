@@ -1,6 +1,7 @@
 -- That reports are of their events, over all starts.
 use Rattle.std.proofs.lemmas.List.Elements.{All-nil}
-use Rattle.std.specs.Prelude.{IfSome}
+use Rattle.std.specs.Prelude.{IfSome, map}
+use Rattle.spool_file.specs.Slot.{width}
 use Rattle.spool_ledger.specs.Ledger.{LedgerView, carried_out, new_ledger}
 use Rattle.spool_file.specs.File.{SpoolFile}
 use Rattle.tool_step.specs.Grants.{GrantView}
@@ -26,7 +27,7 @@ use Rattle.tool_step.specs.Own.{OwnView}
 use Rattle.tool_step.specs.Disk.{standing_in, stops, works_of}
 use Rattle.tool_reports.specs.Histories.{ReportsHold, commands_behind, commands_broken, commands_met, with_command}
 use Rattle.tool_step.specs.End.{machine}
-use Rattle.tool_step.specs.Equipment.{EquipmentView, act, begun_step, ended_step, is_marked_out, needs_numbers, new_own, node_step, oldest_of, parts_done, reserved, restarts, settled, settled_own, settled_step, settled_went, started_on, starts, went_with_file}
+use Rattle.tool_step.specs.Equipment.{unstarted, EquipmentView, act, begun_step, ended_step, is_marked_out, needs_numbers, new_own, node_step, oldest_of, parts_done, reserved, restarts, settled, settled_own, settled_step, settled_went, started_on, starts, went_with_file}
 use Rattle.spool_works.specs.Found.{first_in, found_in}
 use Rattle.tool_law.proofs.Lawful.{IsGoodView, act-good, begun-good, fronts-are, oldest-good, settled-view-good}
 use Rattle.tool_law.proofs.LawfulLosses.{LeavesWell, all-well}
@@ -201,12 +202,12 @@ module _ (plan : EquipmentPlan) (fits : EquipmentPlanFits plan) (looked : Tables
       go : (spent : Bool)
           → IsCourseSo []
           (went_on
-          (if spent then Spent (at_first (record (started_on other file).next { file = file }))
+          (if spent then Spent (at_first (unstarted other file))
           else Goes (started_on other file)) notes)
       go true = so
       go false = record {
         holds =
-            starts-so other (new_ledger file.slots (first_in file) (length file.list)) (found_in file.list)
+            starts-so other (new_ledger file.slots (first_in file) (map width file.list)) (found_in file.list)
             file.mark.value notes same so;
         good = record {
           own = record {
@@ -214,7 +215,7 @@ module _ (plan : EquipmentPlan) (fits : EquipmentPlanFits plan) (looked : Tables
             texts = All-nil (λ (one : GrantView). IsText one.body);
             traced = All-nil (λ (one : GrantView). IsText one.body);
             reports = All-nil (λ (one : ReportView). CanBeSent one.message);
-            ledger = new-good file.slots (first_in file) (length file.list);
+            ledger = new-good file.slots (first_in file) (map width file.list);
           };
           list = can;
         };
@@ -288,7 +289,7 @@ module _ (plan : EquipmentPlan) (fits : EquipmentPlanFits plan) (looked : Tables
       (course_of (started_on plan file) machine meetings)
   course-so file can [] = record {
     holds =
-        starts-so plan (new_ledger file.slots (first_in file) (length file.list)) (found_in file.list)
+        starts-so plan (new_ledger file.slots (first_in file) (map width file.list)) (found_in file.list)
         file.mark.value [] refl
         (record { reported = tt; none_due = refl });
     good = record {
@@ -297,7 +298,7 @@ module _ (plan : EquipmentPlan) (fits : EquipmentPlanFits plan) (looked : Tables
         texts = All-nil (λ (one : GrantView). IsText one.body);
         traced = All-nil (λ (one : GrantView). IsText one.body);
         reports = All-nil (λ (one : ReportView). CanBeSent one.message);
-        ledger = new-good file.slots (first_in file) (length file.list);
+        ledger = new-good file.slots (first_in file) (map width file.list);
       };
       list = can;
     };

@@ -1,24 +1,28 @@
 -- What a loss of power leaves of the list is what a start may find of it, at whichever call of a work it comes.
-use Rattle.std.proofs.Common.{◌≡◌, refl, sym, ap, subst, ◌∙◌, arith, ◌+◌, ◌-◌, ◌^◌, ◌≤◌, ◌<◌, ◌==◌, nat_le, nat_lt}
-use Rattle.std.proofs.Common.{Bool, true, false, ℕ, List, [], ◌∷◌, ◌++◌, append-nil, append_assoc, drop, length}
-use Rattle.std.proofs.Common.{length-append, map, Option, if◌then◌else◌}
-use Rattle.std.proofs.lemmas.Bool.Decides.{nat_tests}
+use Rattle.std.proofs.Common.{◌≡◌, refl, sym, ap, subst, ◌∙◌, arith, ◌+◌, ◌^◌, ◌≤◌, Bool, true, false, ℕ, List, []}
+use Rattle.std.proofs.Common.{◌∷◌, ◌++◌, append-nil, append_assoc, drop, length, map, Option, if◌then◌else◌}
+use Rattle.std.specs.Prelude.{sum}
 use Rattle.disk_base.specs.declared.cut.CutChoice.{CutChoice}
 use Rattle.gem_spool.specs.Updates.{Left}
 use Rattle.gem_spool.specs.Spool.{room_in}
 use Rattle.gem_spool.specs.Standing.{Standing, count_in}
-use Rattle.gem_spool.specs.Works.{AreDue, IsDue, count_after, floor_above, len_after, list_after, lists_after}
-use Rattle.gem_spool.specs.Works.{next_after, reserved, standing_after, standings_after, unstale}
+use Rattle.gem_spool.specs.Works.{AreDue, AreSized, IsDue, IsSized, count_after, floor_above, list_after, lists_after}
+use Rattle.gem_spool.specs.Works.{next_after, reserved, standing_after, standings_after}
+use Rattle.gem_spool.specs.declared.count.Count.{Count}
 use Rattle.gem_spool.specs.declared.spool.Room.TheVariants as room
 use Rattle.gem_spool.specs.declared.works.Work.{Work}
 use Rattle.gem_spool.specs.declared.works.Work.TheVariants as work
+use Rattle.gem_spool.proofs.Doing.{count_keeps}
 use Rattle.message_end.specs.Core.{Went}
 use Rattle.message_end.specs.Core.Went.{Goes, Spent}
 use Rattle.message_end.specs.Course.{noted_behind}
 use Rattle.spool_law.specs.Shelf.{IsFoundOf, Shelf, shelf_of}
 use Rattle.spool_file.specs.File.{SpoolFile}
-use Rattle.spool_file.specs.Slot.{Message}
-use Rattle.spool_file.proofs.Evens.{one_slot}
+use Rattle.spool_file.specs.Run.{IsChainFrom}
+use Rattle.spool_file.specs.Sizes.{is_too_long, slots_for}
+use Rattle.spool_file.specs.Slot.{Message, width}
+use Rattle.spool_file.proofs.Runs.{chain_last}
+use Rattle.spool_slots.specs.Files.{with_gates}
 use Rattle.trace_log.specs.Log.{Happening}
 use Rattle.trace_log.specs.Names.{Spooled}
 use Rattle.spool_works.specs.DiskWorks.{DiskWork, behind_change, standing_behind, up_to_change}
@@ -30,22 +34,24 @@ use Rattle.tool_law.proofs.Lawful.{split-change}
 use Rattle.tool_step.proofs.LossCalls.{AtEach}
 use Rattle.spool_works.proofs.EachLoss.{each-work}
 use Rattle.spool_works.proofs.LossCounts.{Each}
-use Rattle.tool_spool.proofs.EvenRuns.{IsEvenRun, run-last, run-rest}
+use Rattle.tool_spool.proofs.Chained.{chain-rest}
 use Rattle.message_end.proofs.Growing.{behind-both}
 use Rattle.tool_law.proofs.WorkLines.{Walks}
 use Rattle.spool_works.specs.WorkLosses.{calls_at, storing_at}
-use Rattle.spool_works.proofs.FoundLosses.{length-drop-one, Leaves, each-call}
-use Rattle.spool_ledger.proofs.Keeping.{not-below, tests_fit}
+use Rattle.spool_works.proofs.FoundLosses.{Leaves, each-call}
+use Rattle.spool_ledger.specs.Sizes.{oldest_of}
+use Rattle.spool_ledger.proofs.Keeping.{sum-last, sum-parted}
+use Rattle.spool_ledger.proofs.Limits.{IsWithin, fits_by}
+use Rattle.spool_ledger.proofs.Widths.{used-is, widths-last, widths-rest}
 
 -- ---- numbers and room
 
--- the numbers rise one by one up to the next one, as each message takes one slot, and there are so many slots, and no
--- more messages; the floor has the same bound as the numbers
+-- the numbers are a chain up to the next one, and there are so many slots, of which the messages take no more; the floor
+-- has the same bound as the numbers
 pub record StandsWell (slots : ℕ) (st : Standing) : Type 0 where
   pub first : ℕ
-  pub run : IsEvenRun first st.file.list
-  pub next_is : first + length st.file.list ≡ st.next
-  pub room : length st.file.list ≤ slots
+  pub chain : IsChainFrom first st.next st.file.list
+  pub room : sum (map width st.file.list) ≤ slots
   pub bound : st.next ≤ 2 ^ 63 + 65535
   pub floor : st.file.floor.value ≤ 2 ^ 63 + 65535
   pub slots_are : st.file.slots ≡ slots
@@ -53,9 +59,10 @@ pub record StandsWell (slots : ℕ) (st : Standing) : Type 0 where
 -- so it is of a file, whatever comes behind its numbers
 pub record IsWell (slots : ℕ) (file : SpoolFile) : Type 0 where
   pub first : ℕ
-  pub run : IsEvenRun first file.list
-  pub room : length file.list ≤ slots
-  pub bound : first + length file.list ≤ 2 ^ 63 + 65535
+  pub next : ℕ
+  pub chain : IsChainFrom first next file.list
+  pub room : sum (map width file.list) ≤ slots
+  pub bound : next ≤ 2 ^ 63 + 65535
   pub floor : file.floor.value ≤ 2 ^ 63 + 65535
   pub slots_are : file.slots ≡ slots
 
@@ -63,9 +70,10 @@ module _ (slots : ℕ) where
   file-well : (st : Standing) → StandsWell slots st → IsWell slots st.file
   file-well st is = record {
     first = is.first;
-    run = is.run;
+    next = st.next;
+    chain = is.chain;
     room = is.room;
-    bound = let next = is.next_is in let bound = is.bound in omega (arith, next, bound);
+    bound = is.bound;
     floor = is.floor;
     slots_are = is.slots_are;
   }
@@ -75,14 +83,15 @@ module _ (slots : ℕ) where
       → StandsWell slots st → StandsWell slots (standing_after st (work.Put stream function body))
   after-put st stream function body fits is = record {
     first = is.first;
-    run = run-last is.first st.file.list one is.run (sym is.next_is) (one_slot (length body) may.2);
-    next_is = let next = is.next_is in omega (arith, long, next);
+    chain = chain_last is.first st.next st.file.list one is.chain refl;
     room =
-        let most = is.room in let all = is.slots_are in
-        let free : (length st.file.list == st.file.slots) ≡ false = may.1 in
-        let less : length st.file.list + 1 ≤ st.file.slots = grind (arith, nat_tests, free, all, most) in
-        omega (arith, long, less, all);
-    bound = let few : st.next < 2 ^ 63 = grind (arith, nat_tests, spent) in omega (arith, few);
+        let used = used-is st.file.list in
+        let more = ap (λ (ns : List ℕ). sum ns) (widths-last st.file.list one) in
+        let last = sum-last (map width st.file.list) (width one) in
+        let free = within.1 in
+        let all = is.slots_are in
+        omega (arith, used, more, last, free, all);
+    bound = let number = within.0.number in omega (arith, number);
     floor = is.floor;
     slots_are = is.slots_are;
   }
@@ -90,38 +99,30 @@ module _ (slots : ℕ) where
       one : Message
       one = record { number = st.next; stream = stream; function = function; body = body }
 
-      long : length (st.file.list ++ one ∷ []) ≡ length st.file.list + 1
-      long = length-append st.file.list (one ∷ [])
+      within : IsWithin (is_too_long st.file.version st.file.slots (length body)) (slots_for (length body)) (count_in st)
+          × ((count_in st).used + slots_for (length body) ≤ st.file.slots)
+      within =
+          fits_by (is_too_long st.file.version st.file.slots (length body)) (slots_for (length body)) (count_in st) fits
 
-      may : (nat_le (2 ^ 63) st.next ≡ false) × ((length st.file.list == st.file.slots) ≡ false) × (length body ≤ 4081)
-      may =
-          let tests =
-          tests_fit (nat_lt 4081 (length body)) (nat_le (2 ^ 63) st.next) (length st.file.list == st.file.slots) fits in
-          (tests.1, tests.2, not-below 4081 (length body) tests.0)
-
-      spent : nat_le (2 ^ 63) st.next ≡ false
-      spent = may.0
-
-  after-drop : (st : Standing) → 0 < length st.file.list → StandsWell slots st
-      → StandsWell slots (standing_after st (work.DropOldest 1))
-  after-drop st some is = record {
-    first = is.first + 1;
-    run = run-rest is.first st.file.list is.run;
-    next_is = let next = is.next_is in omega (arith, next, less, some);
-    room = let most = is.room in omega (arith, most, less);
+  after-drop : (st : Standing) (freed : ℕ) → StandsWell slots st
+      → StandsWell slots (standing_after st (work.DropOldest freed))
+  after-drop st freed is = record {
+    first = is.first + oldest_of (map width st.file.list);
+    chain = chain-rest is.first st.next st.file.list is.chain;
+    room =
+        let rest = ap (λ (ns : List ℕ). sum ns) (widths-rest st.file.list) in
+        let parted = sum-parted (map width st.file.list) in
+        let most = is.room in
+        omega (arith, rest, parted, most);
     bound = is.bound;
     floor = is.floor;
     slots_are = is.slots_are;
   }
-    where
-      less : length (drop 1 st.file.list) ≡ length st.file.list - 1
-      less = length-drop-one st.file.list
 
   after-purge : (st : Standing) → StandsWell slots st → StandsWell slots (standing_after st work.Purge)
   after-purge st is = record {
     first = st.next;
-    run = tt;
-    next_is = omega arith;
+    chain = refl;
     room = omega arith;
     bound = is.bound;
     floor = above st.file.list;
@@ -135,8 +136,7 @@ module _ (slots : ℕ) where
   pub after-reserve : (st : Standing) → StandsWell slots st → StandsWell slots (reserved st)
   after-reserve st is = record {
     first = is.first;
-    run = is.run;
-    next_is = is.next_is;
+    chain = is.chain;
     room = is.room;
     bound = is.bound;
     floor = is.floor;
@@ -147,36 +147,33 @@ module _ (slots : ℕ) where
       (st : Standing) (one : Work) → IsDue (count_in st) one → StandsWell slots st
       → StandsWell slots (standing_after st one)
   after-well st (work.Put stream function body) due is = after-put st stream function body due.2 is
-  after-well st (work.DropOldest freed) due is = after-drop st due.0 is
+  after-well st (work.DropOldest freed) due is = after-drop st freed is
   after-well st work.Purge due is = after-purge st is
 
   -- one more work of those that are due
-  pub due-behind : (st : Standing) (one : Work) (works : List Work) → AreDue (count_after (count_in st) one) works
-      → AreDue (count_in (standing_after st one)) works
-  due-behind st one works due =
-      subst (λ (n : ℕ). AreDue (record { slots = st.file.slots; next = next_after st.next one; len = n }) works)
-      (sym (len-is one)) due
-    where
-      len-is : (one : Work) → length (list_after st.next st.file.list one) ≡ len_after (length st.file.list) one
-      len-is (work.Put stream function body) = length-append st.file.list _
-      len-is (work.DropOldest freed) = length-drop-one st.file.list
-      len-is work.Purge = refl
+  pub due-behind :
+      (st : Standing) (one : Work) (works : List Work) → IsSized st.file.list one
+      → AreDue (count_after (count_in st) one) works → AreDue (count_in (standing_after st one)) works
+  due-behind st one works sized due = subst (λ (c : Count). AreDue c works) (count_keeps st one sized) due
 
-  pub all-well : (works : List Work) (st : Standing) → AreDue (count_in st) works → StandsWell slots st
-      → StandsWell slots (standings_after st works)
-  all-well [] st due is = is
-  all-well (one ∷ works) st due is =
-      all-well works (standing_after st one) (due-behind st one works due.1) (after-well st one due.0 is)
+  pub all-well : (works : List Work) (st : Standing) → AreDue (count_in st) works
+      → AreSized st.next st.file.list works → StandsWell slots st → StandsWell slots (standings_after st works)
+  all-well [] st due sized is = is
+  all-well (one ∷ works) st due sized is =
+      all-well works (standing_after st one) (due-behind st one works sized.0 due.1) sized.1
+      (after-well st one due.0 is)
 
   abbrev WellLeft : Left → Type 0
   WellLeft left = (choice : CutChoice) → IsWell slots (left choice)
 
-  shut-well : (st : Standing) → StandsWell slots st → IsWell slots (unstale st).file
-  shut-well st is =
+  -- whichever gates are open
+  gates-well : (st : Standing) (gates : List Bool) → StandsWell slots st → IsWell slots (with_gates gates st.file)
+  gates-well st gates is =
       let well = file-well st is in
       record {
         first = well.first;
-        run = well.run;
+        next = well.next;
+        chain = well.chain;
         room = well.room;
         bound = well.bound;
         floor = well.floor;
@@ -187,7 +184,8 @@ module _ (slots : ℕ) where
       (st : Standing) (one : DiskWork) → StandsWell slots st → StandsWell slots (standing_behind st one)
       → Each WellLeft (calls_at st one)
   call-well st one is after =
-      each-work (IsWell slots) st one (file-well st is) (shut-well st is) (file-well (standing_behind st one) after)
+      each-work (IsWell slots) st one (file-well st is) (λ gates. gates-well st gates is)
+      (file-well (standing_behind st one) after)
 
   -- ---- what is found behind what was noted
 
@@ -251,26 +249,37 @@ module _ (slots : ℕ) where
         → StandsWell slots st → AtEach FoundAt st front (read_works went) lines
     read-found (Goes step) st front lines stands is = go (takes_up step.next.node.own)
       where
-        go : (takes : Bool) → AtEach FoundAt st front (if takes then ReadOldest ∷ [] else []) lines
-        go true = ((λ choice. rest-found (shelf_of (noted_behind (front ++ lines) base)) st stands is, tt), tt)
+        shelf : Shelf
+        shelf = shelf_of (noted_behind (front ++ lines) base)
+
+        size : ℕ
+        size = oldest_of step.next.node.own.ledger.sizes
+
+        go : (takes : Bool) → AtEach FoundAt st front (if takes then ReadOldest size ∷ [] else []) lines
+        go true =
+            let same = rest-found shelf st stands is in (
+              each-work (IsFoundAt shelf) st (ReadOldest size) same
+                  (λ gates. record { found = same.found; well = gates-well st gates is }) same,
+              tt,
+            )
         go false = tt
     read-found (Spent step) st front lines stands is = tt
 
     pub works-found :
         (works : List Work) (went : Went EquipmentView Happening) (st : Standing) (front lines : List Happening)
-        → AreDue (count_in st) works → StandsWell slots st
+        → AreDue (count_in st) works → AreSized st.next st.file.list works → StandsWell slots st
         → Walks st.next st.file.list (noted_behind front base) works lines
         → WhereGoes went
         ((shelf_of (noted_behind (front ++ lines) base)).stands ≡ found_in (lists_after st.next st.file.list works))
         → AtEach FoundAt st front (map Change works ++ read_works went) lines
-    works-found [] went st front lines due is walks stands = read-found went st front lines stands is
-    works-found (one ∷ works) went st front lines due is walks stands = (
+    works-found [] went st front lines due sized is walks stands = read-found went st front lines stands is
+    works-found (one ∷ works) went st front lines due sized is walks stands = (
       subst (λ (ns : List Happening). Each (FoundIn (shelf_of ns)) (calls_at st (Change one))) (sym here)
           (each-found st.file.list (storing_at st.next (Change one)) shelf (calls_at st (Change one)) walks.1.stands
           walks.1.storing (each-call st (Change one) shelf.leaving walks.1.leaving)
           (call-well st (Change one) is (after-well st one due.0 is))),
       works-found works went (standing_after st one) (front ++ up_to_change lines) (behind_change lines)
-          (due-behind st one works due.1)
+          (due-behind st one works sized.0 due.1) sized.1
           (after-well st one due.0 is)
           (subst
           (λ (ns : List Happening).
@@ -303,6 +312,6 @@ module _ (slots : ℕ) where
         let same = rest-found (shelf_of base) st stands is in
         let more = rest-found (shelf_of base) (reserved st) stands (after-reserve st is) in (
           each-work (IsFoundAt (shelf_of base)) st Reserve same
-              (record { found = same.found; well = shut-well st is }) more,
+              (λ gates. record { found = same.found; well = gates-well st gates is }) more,
           rest,
         )

@@ -11,9 +11,10 @@ use Rattle.message_end.specs.Course.{noted_behind}
 use Rattle.spool_law.specs.Shelf.{IsPurge, received_since, shelf_of}
 use Rattle.spool_ledger.specs.Laws.{Call, MayCall, brings}
 use Rattle.spool_ledger.specs.Ledger.{Booked, IsLedger, LedgerView, and_then, is_full, next_of, owed, quiet, room_for, size_of}
-use Rattle.spool_ledger.specs.Storing.{all_out, oldest_of, oldest_out, put, room_made, stored, stored_by, with_room}
+use Rattle.spool_ledger.specs.Sizes.{oldest_of}
+use Rattle.spool_ledger.specs.Storing.{all_out, oldest_out, put, room_made, stored, stored_by, with_room}
 use Rattle.spool_ledger.proofs.Following.{calls_come}
-use Rattle.spool_ledger.proofs.Keeping.{even-sum, made_if, oldest-one, oldest_out_keeps}
+use Rattle.spool_ledger.proofs.Keeping.{made_if, oldest-some, oldest_out_keeps, some-sum}
 use Rattle.spool_file.specs.Slot.{Message as Put}
 use Rattle.trace_log.specs.InStep.{received_in_step}
 use Rattle.trace_log.specs.Log.{Happening}
@@ -48,9 +49,9 @@ not-le false b n over = refl
 counts-slots : (plan : EquipmentPlan) (slots : ℕ) → CountsSlots (policy_of plan slots) slots
 counts-slots plan slots = record {
   room = λ stands message short free.
-      both-le (length message.body) 4081 (sum (sizes_of stands) + size_of message) slots short free;
+      both-le (length message.body) 1048576 (sum (sizes_of stands) + size_of message) slots short free;
   full = λ stands message over.
-      not-le (nat_le (length message.body) 4081) (sum (sizes_of stands) + size_of message) slots over;
+      not-le (nat_le (length message.body) 1048576) (sum (sizes_of stands) + size_of message) slots over;
 }
 
 module _ (plan : EquipmentPlan) (slots : ℕ) (list : List Put) (base : List Happening) where
@@ -83,7 +84,7 @@ module _ (plan : EquipmentPlan) (slots : ℕ) (list : List Put) (base : List Hap
   made-stays size for_one (oldest ∷ sizes) v notes is same =
       let long = ap (λ (all : List ℕ). length all) same in
       let some : 0 < length v.sizes = omega (arith, long) in
-      go (is_full v.slots v.sizes size) (oldest-one v.sizes is.even some)
+      go (is_full v.slots v.sizes size) (oldest-some v.sizes is.each some)
       (made-stays size for_one sizes (oldest_out Overwritten for_one v).next
       (Gone v.first ∷ Leaving v.first Overwritten for_one ∷ notes)
       (oldest_out_keeps v (owed v (work.DropOldest (oldest_of v.sizes))) is some refl) (ap (drop 1) same))
@@ -94,7 +95,7 @@ module _ (plan : EquipmentPlan) (slots : ℕ) (list : List Put) (base : List Hap
       told_less : List Happening
       told_less = Gone v.first ∷ Leaving v.first Overwritten for_one ∷ notes
 
-      go : (full : Bool) → oldest_of v.sizes ≡ 1 → Stays less told_less (room_made size for_one sizes less)
+      go : (full : Bool) → 1 ≤ oldest_of v.sizes → Stays less told_less (room_made size for_one sizes less)
           → Stays v notes (made_if size for_one full sizes v)
       go true one rest = (
         rest.0,
@@ -230,9 +231,9 @@ module _ (plan : EquipmentPlan) (slots : ℕ) (list : List Put) (base : List Hap
 
           longer : (length v.sizes == 0) ≡ false → v.first < next_of v
           longer some =
-              let even = even-sum v.sizes is.even in
+              let many = some-sum v.sizes is.each in
               let more = some-left (length v.sizes) some in
-              omega (arith, even, more)
+              omega (arith, many, more)
             where
               some-left : (len : ℕ) → (len == 0) ≡ false → 0 < len
               some-left len none = grind (arith, nat_tests, none)

@@ -18,21 +18,22 @@ use Rattle.disk_base.specs.declared.cut.CutChoice.{CutChoice}
 use Rattle.spool_law.specs.Shelf.{change_of, shelf_of}
 use Rattle.spool_law.specs.Shelf.Change.{Other}
 use Rattle.spool_ledger.specs.Ledger.{LedgerView, decided_count, new_ledger, next_of, stood_count}
-use Rattle.spool_ledger.specs.declared.ledger.Stand.{Stand}
-use Rattle.spool_ledger.proofs.Keeping.{even-sum}
-use Rattle.std.specs.Prelude.{sum}
+use Rattle.spool_ledger.specs.Ledger.{Numbered}
+use Rattle.spool_ledger.specs.Sizes.{AreSizedBy, all_sizes_after}
+use Rattle.spool_file.specs.Run.{IsChainFrom}
+use Rattle.std.specs.Prelude.{map, sum, sum_by}
 use Rattle.spool_file.specs.File.{SpoolFile}
 use Rattle.spool_file.specs.Format.{empty_file}
-use Rattle.spool_file.specs.Slot.{Message as Put}
+use Rattle.spool_file.specs.Slot.{Message as Put, width}
 use Rattle.gem_spool.specs.Standing.{count_in}
-use Rattle.gem_spool.specs.Works.{AreDue, counts_after, lists_after, reserved as marked, standings_after}
+use Rattle.gem_spool.specs.Works.{AreDue, AreSized, counts_after, lists_after, reserved as marked, standings_after}
 use Rattle.gem_spool.specs.declared.count.Count.{Count}
 use Rattle.gem_spool.specs.declared.works.Work.{Work}
 use Rattle.equipment_tables.specs.declared.plan.EquipmentPlan.{EquipmentPlan}
 use Rattle.equipment_tables.specs.Laws.{TablesAreLookedBackFor}
 use Rattle.equipment_tables.specs.Plan.{EquipmentPlanFits}
 use Rattle.tool_step.specs.End.{machine}
-use Rattle.tool_step.specs.Equipment.{EquipmentView, act, begun_step, is_marked_out, needs_numbers, new_own, restarts}
+use Rattle.tool_step.specs.Equipment.{unstarted, EquipmentView, act, begun_step, is_marked_out, needs_numbers, new_own, restarts}
 use Rattle.tool_step.specs.Equipment.{settled_list, started_on}
 use Rattle.spool_works.specs.Found.{first_in, found_in, spooled_of}
 use Rattle.tool_step.specs.Disk.{owed_in, standing_in, works_behind, works_of as step_works}
@@ -51,20 +52,21 @@ use Rattle.tool_law.specs.Sound.{CanBeSent}
 use Rattle.tool_spool.specs.InPairs.{AreInPairs, ArePairsOfStep, TellsWorks, WorksAreInPairs, changes_in}
 use Rattle.tool_spool.specs.LeavesInStep.{LeaveInTheirSteps, MessagesLeaveInStep}
 use Rattle.tool_spool.specs.MadeRoom.{IsRoomUsed, LeavesNoRoom, OverwritesForPuts, UsesRoom}
-use Rattle.tool_spool.specs.SpoolKept.{KeepsSpoolFrom, MayHold, SpoolIsKept, SpoolIsKeptFrom, policy_of}
+use Rattle.tool_spool.specs.SpoolKept.{KeepsSpoolFrom, MayHold, SpoolIsKept, SpoolIsKeptFrom, policy_of, used_in}
 use Rattle.tool_step.specs.Step.{end_plan}
 use Rattle.tool_step.specs.declared.kind.Kind.{Kind}
-use Rattle.tool_step.proofs.StepFiles.{act-slots, begun-file, ended-file}
+use Rattle.tool_step.proofs.StepFiles.{act-slots, act-version, begun-file, ended-file}
 use Rattle.tool_reports.proofs.QuietReports.{Holds}
 use Rattle.tool_reports.proofs.Reporting.{IsCourseSo as IsReported, course-so as course-reported}
 use Rattle.tool_spool.proofs.ShelvedTurns.{Shelves}
 use Rattle.message_end.proofs.Growing.{behind-both}
 use Rattle.tool_law.proofs.WorkLines.{Walks, same-lines}
 use Rattle.message_end.proofs.Parts.{OnEither}
+use Rattle.spool_ledger.proofs.Widths.{sized-by, used-is, widths-long}
 use Rattle.tool_spool.proofs.TakenTurns.{full-so}
 use Rattle.tool_spool.proofs.KeptStarts.{rebased, begun-both, IsBegunSo, begun-so, IsDone, IsKeptFile, step-both}
 use Rattle.tool_spool.proofs.KeptStarts.{step-lines, finds-all, started-shelves}
-use Rattle.tool_spool.proofs.EvenRuns.{IsEvenRun, even-run, first-bound, first-run}
+use Rattle.tool_spool.proofs.Chained.{first-chain, first-most}
 
 module _ (plan : EquipmentPlan) (fits : EquipmentPlanFits plan) (looked : TablesAreLookedBackFor) (slots : ℕ) where
   -- ---- over all starts
@@ -73,6 +75,7 @@ module _ (plan : EquipmentPlan) (fits : EquipmentPlanFits plan) (looked : Tables
     pub shelves : Shelves plan slots s.file.list notes notes s.node.own s.node.core notes
     pub none : s.node.own.ledger.works ≡ []
     pub slots_are : s.file.slots ≡ slots
+    pub version : s.file.version ≡ 2
     pub floor : s.file.floor.value ≤ 2 ^ 63 + 65535
 
   abbrev pub IsCourseKept : Course EquipmentView → Type 0
@@ -82,18 +85,19 @@ module _ (plan : EquipmentPlan) (fits : EquipmentPlanFits plan) (looked : Tables
   went-so :
       (said : List ToolCommand) (before : List Happening) (went : Went EquipmentView Happening)
       → OnEither ((IsDone plan fits looked slots) said before) ((IsKeptFile plan fits looked slots) before) went
-      → (step_in went).next.file.slots ≡ slots → (step_in went).next.file.floor.value ≤ 2 ^ 63 + 65535
-      → IsCourseKept (went_on went before)
-  went-so said before (Goes step) at same low = record {
+      → (step_in went).next.file.slots ≡ slots → (step_in went).next.file.version ≡ 2
+      → (step_in went).next.file.floor.value ≤ 2 ^ 63 + 65535 → IsCourseKept (went_on went before)
+  went-so said before (Goes step) at same version low = record {
     shelves =
         (rebased plan fits looked slots) step.next.file.list at.base before (noted_behind step.notes before)
         step.next.node.own step.next.node.core
         (noted_behind step.notes before) at.none at.both.1;
     none = at.none;
     slots_are = same;
+    version = version;
     floor = low;
   }
-  went-so said before (Spent step) at same low = at
+  went-so said before (Spent step) at same version low = at
 
   -- the list as the file has it
   file-list : (v : LedgerView) (list : List Put) → v.works ≡ [] → settled_list v list ≡ list
@@ -103,10 +107,10 @@ module _ (plan : EquipmentPlan) (fits : EquipmentPlanFits plan) (looked : Tables
     started-so :
         (other : EquipmentPlan) (file : SpoolFile) (notes : List Happening) → other ≡ plan → file.slots ≡ slots
         → KeepsOn (policy_of plan slots) (Happening.EquipmentStarted (found_in file.list) file.mark.value ∷ notes)
-        → IsEvenRun (first_in file) file.list → length file.list ≤ slots
-        → first_in file + length file.list ≤ 2 ^ 63 + 65535 → file.floor.value ≤ 2 ^ 63 + 65535
+        → IsChainFrom (first_in file) (first_in file + used_in file) file.list → used_in file ≤ slots
+        → first_in file + used_in file ≤ 2 ^ 63 + 65535 → file.floor.value ≤ 2 ^ 63 + 65535
         → IsSpoolSo (started_on other file).next (noted_behind (started_on other file).notes notes)
-    started-so other file notes same all kept run room bound low =
+    started-so other file notes same all kept chain room bound low =
         subst
         (λ (p : EquipmentPlan). IsSpoolSo (started_on p file).next (noted_behind (started_on p file).notes notes))
         (sym same)
@@ -115,11 +119,12 @@ module _ (plan : EquipmentPlan) (fits : EquipmentPlanFits plan) (looked : Tables
               subst
               (λ (n : ℕ).
               Shelves plan slots file.list started started
-              (new_own plan (new_ledger n (first_in file) (length file.list))) core started) (sym all)
+              (new_own plan (new_ledger n (first_in file) (map width file.list))) core started) (sym all)
               ((started-shelves plan fits looked slots) file.list (first_in file) file.mark.value started notes some
-              most kept run room bound);
+              most kept chain room bound);
           none = refl;
           slots_are = all;
+          version = refl;
           floor = low;
         })
       where
@@ -138,6 +143,7 @@ module _ (plan : EquipmentPlan) (fits : EquipmentPlanFits plan) (looked : Tables
           so.none (full-so plan slots s.file.list notes notes s.node.own what (at_first s.node.core) other so.shelves);
       none = so.none;
       slots_are = so.slots_are;
+      version = so.version;
       floor = so.floor;
     }
 
@@ -168,20 +174,18 @@ module _ (plan : EquipmentPlan) (fits : EquipmentPlanFits plan) (looked : Tables
         same : settled_list w s.file.list ≡ s.file.list
         same = file-list w s.file.list so.none
 
-        long : length s.file.list ≡ length w.sizes
-        long = ap (λ (l : List Put). length l) (sym same) ∙ so.shelves.shelved.long
-
-        even : sum w.sizes ≡ length w.sizes
-        even = even-sum w.sizes so.shelves.is.even
+        sizes : map width s.file.list ≡ w.sizes
+        sizes = ap (map width) (sym same) ∙ so.shelves.shelved.sizes
 
         well : StandsWell slots (standing_in s)
         well = record {
           first = w.first;
-          run = subst (IsEvenRun w.first) same so.shelves.shelved.run;
-          next_is = let l = long in let e = even in omega (arith, l, e);
+          chain = subst (IsChainFrom w.first (next_of w)) same so.shelves.shelved.chain;
           room =
-              let is = so.shelves.is.room in let all = so.shelves.all in let l = long in let e = even in
-              omega (arith, is, all, l, e);
+              let is = so.shelves.is.room in
+              let all = so.shelves.all in
+              let used = ap (λ (ns : List ℕ). sum ns) sizes in
+              omega (arith, is, all, used);
           bound = so.shelves.is.bound;
           floor = so.floor;
           slots_are = so.slots_are;
@@ -198,18 +202,40 @@ module _ (plan : EquipmentPlan) (fits : EquipmentPlanFits plan) (looked : Tables
         stood-is =
             ap (λ (works : List Work). counts_after (stood_count w) works) (sym so.none) ∙ so.shelves.is.come_to
 
-        next-is : v.stood.next ≡ next_of w
+        next-is : v.stood.first + sum v.stood.sizes ≡ next_of w
         next-is =
-            ap (λ (at : Stand). at.next) stays.1 ∙ ap (λ (c : Count). c.next) stood-is
+            ap (λ (at : Numbered). at.first + sum at.sizes) stays.1 ∙ ap (λ (c : Count). c.next) stood-is
+
+        stood-sizes : v.stood.sizes ≡ map width s.file.list
+        stood-sizes =
+            ap (λ (at : Numbered). at.sizes) stays.1
+            ∙ ap (λ (works : List Work). all_sizes_after w.stood.sizes works) (sym so.none)
+            ∙ so.shelves.is.leave
+            ∙ sym sizes
+
+        sized : AreSized (next_of w) s.file.list v.works
+        sized =
+            sized-by (next_of w) s.file.list v.works
+            (subst (λ (ns : List ℕ). AreSizedBy ns v.works) stood-sizes begun-is.sized)
+
+        abbrev counted : (version slots next len used : ℕ) → Count
+        counted version all next len used =
+            record { version = version; slots = all; next = next; len = len; used = used }
 
         due : AreDue (count_in (standing_in s)) v.works
         due =
-            subst (λ (n : ℕ). AreDue (record { slots = n; next = next_of w; len = length s.file.list }) v.works)
+            let long = ap (λ (ns : List ℕ). length ns) stood-sizes ∙ widths-long s.file.list in
+            let used = ap (λ (ns : List ℕ). sum ns) stood-sizes ∙ sym (used-is s.file.list) in
+            subst
+            (λ (n : ℕ). AreDue (counted n s.file.slots (next_of w) (length s.file.list) (sum_by width s.file.list)) v.works)
+            (sym so.version)
+            (subst
+            (λ (n : ℕ). AreDue (counted 2 n (next_of w) (length s.file.list) (sum_by width s.file.list)) v.works)
             (sym so.slots_are)
-            (subst (λ (n : ℕ). AreDue (record { slots = slots; next = next_of w; len = n }) v.works)
-            (ap (λ (at : Stand). at.len) stays.1 ∙ ap (λ (c : Count). c.len) stood-is ∙ sym long)
-            (subst (λ (n : ℕ). AreDue (record { slots = slots; next = n; len = v.stood.len }) v.works) next-is
-            begun-is.due))
+            (subst (λ (n : ℕ). AreDue (counted 2 slots (next_of w) (length s.file.list) n) v.works) used
+            (subst (λ (n : ℕ). AreDue (counted 2 slots (next_of w) n (sum v.stood.sizes)) v.works) long
+            (subst (λ (n : ℕ). AreDue (counted 2 slots n (length v.stood.sizes) (sum v.stood.sizes)) v.works) next-is
+            begun-is.due))))
 
         walks : Walks (next_of w) s.file.list before v.works notes
         walks =
@@ -240,10 +266,10 @@ module _ (plan : EquipmentPlan) (fits : EquipmentPlanFits plan) (looked : Tables
                 ((if reserves then Reserve ∷ [] else []) ++ works_behind went) notes
             go true =
                 reserve-found slots before (standing_in s) (works_behind went) notes stands well
-                (works-found slots before v.works went (marked (standing_in s)) [] notes due
+                (works-found slots before v.works went (marked (standing_in s)) [] notes due sized
                 (after-reserve slots (standing_in s) well) walks ended)
             go false =
-                works-found slots before v.works went (standing_in s) [] notes due well walks ended
+                works-found slots before v.works went (standing_in s) [] notes due sized well walks ended
 
         -- the works leave the spool well, whether system bytes were reserved before them or not
         abbrev EndsWell : SpoolFile → Type 0
@@ -257,8 +283,8 @@ module _ (plan : EquipmentPlan) (fits : EquipmentPlanFits plan) (looked : Tables
             (standings_after (record { next = n; file = (step_in went).next.file }) v.works).file.floor.value
             ≤ 2 ^ 63 + 65535)
             (sym next-is)
-            (begun-file EndsWell s input now (all-well slots v.works (standing_in s) due well)
-            (all-well slots v.works (marked (standing_in s)) due (after-reserve slots (standing_in s) well))).floor)
+            (begun-file EndsWell s input now (all-well slots v.works (standing_in s) due sized well)
+            (all-well slots v.works (marked (standing_in s)) due sized (after-reserve slots (standing_in s) well))).floor)
 
         -- the lines of a step up to its works tell of these: each work stands between its two lines
         told-so : AreInPairs (standing_in s).next s.file.list v.works (changes_in notes)
@@ -359,7 +385,7 @@ module _ (plan : EquipmentPlan) (fits : EquipmentPlanFits plan) (looked : Tables
         go : (spent : Bool)
             → IsCourseKept
             (went_on
-            (if spent then Spent (at_first (record (started_on s.node.own.plan file).next { file = file }))
+            (if spent then Spent (at_first (unstarted s.node.own.plan file))
             else Goes (started_on s.node.own.plan file))
             (Happening.Power ∷ noted_behind loss.front notes))
         go true = inr (tt, inl used, tt, kept)
@@ -367,10 +393,10 @@ module _ (plan : EquipmentPlan) (fits : EquipmentPlanFits plan) (looked : Tables
             started-so s.node.own.plan file (Happening.Power ∷ noted_behind loss.front notes) holds.plan_is
             is-found.well.slots_are
             (inr (is-found.found, inl tt, tt, inr (tt, inl used, tt, kept)))
-            (first-run file.floor.value is-found.well.first file.list is-found.well.run)
+            (first-chain file.floor.value is-found.well.first is-found.well.next file.list is-found.well.chain)
             is-found.well.room
-            (first-bound file.floor.value is-found.well.first (2 ^ 63 + 65535) file.list
-            is-found.well.run is-found.well.bound is-found.well.floor)
+            (first-most file.floor.value is-found.well.first is-found.well.next (2 ^ 63 + 65535) file.list
+            is-found.well.chain is-found.well.bound is-found.well.floor)
             is-found.well.floor
 
     meeting-so :
@@ -381,7 +407,7 @@ module _ (plan : EquipmentPlan) (fits : EquipmentPlanFits plan) (looked : Tables
     meeting-so (Acts input now) said (Reached s notes) reported so =
         went-so (with_command input said) notes (act s input now)
         ((step-both plan fits looked slots) said notes input now s reported.holds so.shelves reported.good)
-        (act-slots s input now ∙ so.slots_are) (floor-so said notes input now s reported.holds reported.good so)
+        (act-slots s input now ∙ so.slots_are) (act-version s input now ∙ so.version) (floor-so said notes input now s reported.holds reported.good so)
     meeting-so (Restarts now) said (Reached s notes) reported so = go (is_marked_out s.file.mark.value)
       where
         v : LedgerView
@@ -390,28 +416,24 @@ module _ (plan : EquipmentPlan) (fits : EquipmentPlanFits plan) (looked : Tables
         same : settled_list v s.file.list ≡ s.file.list
         same = file-list v s.file.list so.none
 
-        long : length s.file.list ≡ length v.sizes
-        long = ap (λ (l : List Put). length l) (sym same) ∙ so.shelves.shelved.long
+        sizes : map width s.file.list ≡ v.sizes
+        sizes = ap (map width) (sym same) ∙ so.shelves.shelved.sizes
 
-        even : sum v.sizes ≡ length v.sizes
-        even = even-sum v.sizes so.shelves.is.even
+        chain : IsChainFrom v.first (next_of v) s.file.list
+        chain = subst (IsChainFrom v.first (next_of v)) same so.shelves.shelved.chain
 
-        run : IsEvenRun v.first s.file.list
-        run = subst (IsEvenRun v.first) same so.shelves.shelved.run
-
-        room : length s.file.list ≤ slots
+        room : used_in s.file ≤ slots
         room =
-            let is = so.shelves.is.room in let all = so.shelves.all in let l = long in let e = even in
-            omega (arith, is, all, l, e)
-
-        bound : v.first + length s.file.list ≤ 2 ^ 63 + 65535
-        bound = let is = so.shelves.is.bound in let l = long in let e = even in omega (arith, is, l, e)
+            let is = so.shelves.is.room in
+            let all = so.shelves.all in
+            let used = ap (λ (ns : List ℕ). sum ns) sizes in
+            omega (arith, is, all, used)
 
         go : (spent : Bool)
             → IsCourseKept
             (went_on
             (if spent then
-            Spent (at_first (record (started_on s.node.own.plan s.file).next { file = s.file }))
+            Spent (at_first (unstarted s.node.own.plan s.file))
             else Goes (started_on s.node.own.plan s.file)) notes)
         go true = so.shelves.shelved.kept
         go false =
@@ -422,8 +444,8 @@ module _ (plan : EquipmentPlan) (fits : EquipmentPlanFits plan) (looked : Tables
               tt,
               so.shelves.shelved.kept,
             ))
-            (first-run s.file.floor.value v.first s.file.list run) room
-            (first-bound s.file.floor.value v.first (2 ^ 63 + 65535) s.file.list run bound
+            (first-chain s.file.floor.value v.first (next_of v) s.file.list chain) room
+            (first-most s.file.floor.value v.first (next_of v) (2 ^ 63 + 65535) s.file.list chain so.shelves.is.bound
             so.floor) so.floor
     meeting-so (Writes characters) said (Reached s notes) reported so =
         noted-so s notes (Happening.Wrote characters) refl so
@@ -439,8 +461,7 @@ module _ (plan : EquipmentPlan) (fits : EquipmentPlanFits plan) (looked : Tables
           → IsCourseKept (course_of (started_on plan file) machine meetings)
       course-kept [] =
           started-so plan file [] refl all (inl (record { found = found_in file.list; is = refl; alone = refl }))
-          (even-run (first_in file) (first_in file + length file.list) file.list refl may.run)
-          (subst (λ (n : ℕ). length file.list ≤ n) all may.room) may.bound may.floor
+          may.chain (subst (λ (n : ℕ). used_in file ≤ n) all may.room) may.bound may.floor
       course-kept (meeting ∷ meetings) =
           meeting-so meeting (commands_met (started_on plan file) meetings)
           (course_of (started_on plan file) machine meetings)
@@ -510,7 +531,7 @@ spool-is-kept looked plan slots fits some most meetings =
     kept-empty (policy_of plan slots) (notes_of (course_of (started_on plan (empty_file slots)) machine meetings))
     (spool-is-kept-from looked plan (empty_file slots) fits some most
     (record {
-      run = omega arith;
+      chain = omega arith;
       room = omega arith;
       bound = omega arith;
       floor = omega arith;

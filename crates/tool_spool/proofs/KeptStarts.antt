@@ -5,15 +5,18 @@ use Rattle.trace_log.specs.Log.{Happening}
 use Rattle.transact.specs.Numbers.{numbers_from}
 use Rattle.message_end.specs.Core.{EndView, Step, Went, and_then, at_first, step_in}
 use Rattle.message_end.specs.Core.Went.{Goes, Spent}
-use Rattle.spool_ledger.proofs.Keeping.{long-ones, new_keeps}
+use Rattle.spool_ledger.proofs.Keeping.{new_keeps}
 use Rattle.message_end.specs.Course.{noted_behind}
 use Rattle.message_end.specs.Ends.{Input}
 use Rattle.message_end.specs.Laws.{new_end}
 use Rattle.message_end.specs.Parts.{Node, after_parts}
 use Rattle.spool_law.specs.Shelf.{Change, IsFoundOf, shelf_of}
 use Rattle.spool_ledger.specs.Laws.{Call}
-use Rattle.spool_ledger.specs.Ledger.{LedgerView, carried_out, new_ledger, stood_count}
-use Rattle.spool_file.specs.Slot.{Message as Put}
+use Rattle.spool_ledger.specs.Ledger.{LedgerView, carried_out, count_by, new_ledger, stood_count}
+use Rattle.spool_ledger.specs.Sizes.{AreSizedBy}
+use Rattle.spool_file.specs.Run.{IsChainFrom}
+use Rattle.spool_file.specs.Slot.{Message as Put, width}
+use Rattle.std.specs.Prelude.{map, sum}
 use Rattle.gem_spool.specs.Works.{AreDue}
 use Rattle.gem_spool.specs.declared.works.Work.{Work}
 use Rattle.equipment_tables.specs.declared.plan.EquipmentPlan.{EquipmentPlan}
@@ -32,7 +35,6 @@ use Rattle.tool_spool.specs.SpoolKept.{policy_of}
 use Rattle.tool_step.specs.Step.{begun, end_plan, first_parts, last_parts}
 use Rattle.tool_reports.proofs.QuietReports.{Holds, holds-less}
 use Rattle.tool_spool.specs.MadeRoom.{IsRoomUsed}
-use Rattle.tool_spool.proofs.EvenRuns.{IsEvenRun}
 use Rattle.tool_spool.proofs.FromStarts.{KeepsOn}
 use Rattle.tool_spool.proofs.KeptLedger.{one-call}
 use Rattle.tool_spool.proofs.PairedLines.{AreTold, changes-both, told-none}
@@ -40,10 +42,11 @@ use Rattle.tool_reports.proofs.PlainTurns.{booked-stays}
 use Rattle.tool_reports.proofs.QuietNotes.{AreSettled}
 use Rattle.tool_reports.proofs.Reporting.{odd-of}
 use Rattle.tool_spool.proofs.Shelved.{IsShelved, settled-shelved}
-use Rattle.tool_spool.proofs.ShelvedTurns.{IsSpentAt, Shelves, count_at, spent-at}
+use Rattle.tool_spool.proofs.ShelvedTurns.{IsSpentAt, Shelves, spent-at}
 use Rattle.message_end.proofs.Growing.{behind-both}
 use Rattle.tool_law.proofs.WorkLines.{AreLines, lines-none, same-lines}
 use Rattle.message_end.proofs.Parts.{OnEither, either-less}
+use Rattle.spool_ledger.proofs.Widths.{widths-some}
 use Rattle.tool_spool.proofs.KeptParts.{BothEnd, Settled, SettledRight, first-both, last-both}
 
 module _ (plan : EquipmentPlan) (fits : EquipmentPlanFits plan) (looked : TablesAreLookedBackFor) (slots : ℕ) where
@@ -127,8 +130,8 @@ module _ (plan : EquipmentPlan) (fits : EquipmentPlanFits plan) (looked : Tables
       kept = holds.shelved.kept;
       rest = holds.shelved.rest;
       stands = holds.shelved.stands;
-      run = holds.shelved.run;
-      long = holds.shelved.long;
+      chain = holds.shelved.chain;
+      sizes = holds.shelved.sizes;
       lines = lines-none own.ledger list notes none;
       told = told-none own.ledger list notes none;
       closed = holds.shelved.closed;
@@ -197,8 +200,10 @@ module _ (plan : EquipmentPlan) (fits : EquipmentPlanFits plan) (looked : Tables
     pub closed : IsRoomUsed (noted_behind (step_in went).notes before)
     pub due :
         AreDue
-        (count_at plan slots (step_in went).next.file.list before before (step_in went).next.node.own.ledger.stood)
+        (count_by slots (step_in went).next.node.own.ledger.stood)
         (step_in went).next.node.own.ledger.works
+    pub sized :
+        AreSizedBy (step_in went).next.node.own.ledger.stood.sizes (step_in went).next.node.own.ledger.works
     pub stands :
         WhereGoes slots before went
         ((shelf_of (noted_behind (step_in went).notes before)).stands
@@ -218,6 +223,7 @@ module _ (plan : EquipmentPlan) (fits : EquipmentPlanFits plan) (looked : Tables
         told = spent.told;
         closed = spent.closed;
         due = spent.due;
+        sized = spent.sized;
         stands = at.1.shelved.stands;
       }
   begun-so said before (Spent step) at =
@@ -227,6 +233,7 @@ module _ (plan : EquipmentPlan) (fits : EquipmentPlanFits plan) (looked : Tables
         told = at.1.told;
         closed = at.1.closed;
         due = at.1.due;
+        sized = at.1.sized;
         stands = tt;
       }
 
@@ -342,24 +349,25 @@ module _ (plan : EquipmentPlan) (fits : EquipmentPlanFits plan) (looked : Tables
   pub started-shelves :
       (list : List Put) (first mark : ℕ) (before notes : List Happening) → 0 < slots → slots < 2 ^ 16
       → KeepsOn (policy_of plan slots) (Happening.EquipmentStarted (found_in list) mark ∷ notes)
-      → IsEvenRun first list → length list ≤ slots → first + length list ≤ 2 ^ 63 + 65535
+      → IsChainFrom first (first + sum (map width list)) list → sum (map width list) ≤ slots
+      → first + sum (map width list) ≤ 2 ^ 63 + 65535
       → Shelves plan slots list (Happening.EquipmentStarted (found_in list) mark ∷ notes) before
-      (new_own plan (new_ledger slots first (length list))) (new_end (end_plan plan) (numbers_from mark 4096))
+      (new_own plan (new_ledger slots first (map width list))) (new_end (end_plan plan) (numbers_from mark 4096))
       (Happening.EquipmentStarted (found_in list) mark ∷ notes)
-  started-shelves list first mark before notes some most kept run room bound = record {
-    is = new_keeps slots first (length list) some (below slots most) room bound;
+  started-shelves list first mark before notes some most kept chain room bound = record {
+    is = new_keeps slots first (map width list) some (below slots most) (widths-some list) room bound;
     all = refl;
     shelved = record {
       kept = kept;
       rest = record { none_stored = refl; none_leaves = refl };
       stands = refl;
-      run = run;
-      long = sym (long-ones (length list));
+      chain = chain;
+      sizes = refl;
       lines =
-          lines-none (new_ledger slots first (length list)) list
+          lines-none (new_ledger slots first (map width list)) list
           (Happening.EquipmentStarted (found_in list) mark ∷ notes) refl;
       told =
-          told-none (new_ledger slots first (length list)) list
+          told-none (new_ledger slots first (map width list)) list
           (Happening.EquipmentStarted (found_in list) mark ∷ notes) refl;
       closed = tt;
     };

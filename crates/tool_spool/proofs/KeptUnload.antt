@@ -9,11 +9,12 @@ use Rattle.spool_ledger.specs.declared.unload.Unload.{Unload}
 use Rattle.spool_ledger.specs.Activity.{activated, changed, is_done, rested}
 use Rattle.spool_ledger.specs.Laws.{Call}
 use Rattle.spool_ledger.specs.Ledger.{IsLedger, LedgerView, and_then, quiet, stood_count}
-use Rattle.spool_ledger.specs.declared.ledger.Stand.{Stand}
+use Rattle.spool_ledger.specs.Ledger.{Numbered, next_of}
+use Rattle.std.specs.Prelude.{map, sum}
 use Rattle.gem_spool.specs.Works.{lists_after}
 use Rattle.gem_spool.specs.declared.works.Work.{Work}
 use Rattle.spool_ledger.specs.Storing.{oldest_out}
-use Rattle.spool_ledger.proofs.Keeping.{oldest-one}
+use Rattle.spool_ledger.proofs.Keeping.{oldest-some}
 use Rattle.spool_ledger.specs.Unloading.{confirmed, counted, is_oldest_tried, settled, taken_up, tried_in, tries, with_each}
 use Rattle.spool_file.specs.Slot.{Message as Put}
 use Rattle.trace_log.specs.Log.{Happening}
@@ -28,7 +29,8 @@ use Rattle.tool_spool.specs.LeavesInStep.{IsConfirmedInStep}
 use Rattle.tool_spool.specs.SpoolKept.{policy_of}
 use Rattle.tool_spool.proofs.KeptLedger.{IsKeptBy, one-call}
 use Rattle.tool_spool.proofs.PairedLines.{told-as}
-use Rattle.tool_spool.proofs.EvenRuns.{IsEvenRun}
+use Rattle.spool_file.specs.Run.{IsChainFrom}
+use Rattle.spool_file.specs.Slot.{width}
 use Rattle.tool_spool.proofs.Shelved.{IsShelved, first-is, noted-shelved, out-shelved, shelved-closed, shelved-for}
 use Rattle.tool_law.proofs.WorkLines.{lines-as}
 
@@ -69,10 +71,11 @@ module _ (plan : EquipmentPlan) (slots : ℕ) (list : List Put) (base : List Hap
     kept = shelved.kept;
     rest = shelved.rest;
     stands = shelved.stands ∙ ap found_in (sym same);
-    run =
-        subst (λ (n : ℕ). IsEvenRun n (settled_list w list)) (sym first)
-        (subst (IsEvenRun v.first) (sym same) shelved.run);
-    long = ap length same ∙ shelved.long ∙ ap (λ (all : List ℕ). length all) (sym sizes);
+    chain =
+        subst (λ (n : ℕ). IsChainFrom n (n + sum w.sizes) (settled_list w list)) (sym first)
+        (subst (λ (ns : List ℕ). IsChainFrom v.first (v.first + sum ns) (settled_list w list)) (sym sizes)
+        (subst (IsChainFrom v.first (next_of v)) (sym same) shelved.chain));
+    sizes = ap (map width) same ∙ shelved.sizes ∙ sym sizes;
     lines = lines-as v w list base notes owes.0 owes.1 shelved.lines;
     told = told-as v w list base notes owes.0 owes.1 shelved.told;
     closed = shelved.closed;
@@ -80,7 +83,7 @@ module _ (plan : EquipmentPlan) (slots : ℕ) (list : List Put) (base : List Hap
     where
       same : settled_list w list ≡ settled_list v list
       same =
-          ap (λ (at : Stand). lists_after at.next list w.works) owes.0
+          ap (λ (at : Numbered). lists_after (at.first + sum at.sizes) list w.works) owes.0
           ∙ ap (λ (works : List Work). lists_after (stood_count v).next list works) owes.1
 
   module _ (v : LedgerView) (notes : List Happening) (is : IsLedger v)
@@ -194,7 +197,7 @@ module _ (plan : EquipmentPlan) (slots : ℕ) (list : List Put) (base : List Hap
             told = refl;
             tables = refl;
             moves =
-                let one = oldest-one v.sizes is.even (some (length v.sizes) (tries v.first v.unload) e) in
+                let one = oldest-some v.sizes is.each (some (length v.sizes) (tries v.first v.unload) e) in
                 inr (omega (arith, one));
           }
           go false e good = unload-kept (with_each settled v) good refl refl refl (refl, refl)

@@ -2,7 +2,7 @@ pub mod CalmCommands
 pub mod CalmParts
 pub mod CalmSamples
 pub mod CalmTurns
-pub mod EvenRuns
+pub mod Chained
 pub mod FromStarts
 pub mod Interrupted
 pub mod KeptLedger

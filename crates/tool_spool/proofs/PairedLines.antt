@@ -6,7 +6,8 @@ use Rattle.gem_spool.specs.declared.works.Work.{Work}
 use Rattle.message_end.specs.Course.{noted_behind}
 use Rattle.spool_law.specs.Shelf.{Change, change_of}
 use Rattle.spool_ledger.specs.Ledger.{IsLedger, LedgerView, next_of, owed, stood_count}
-use Rattle.spool_ledger.specs.declared.ledger.Stand.{Stand}
+use Rattle.spool_ledger.specs.Ledger.{Numbered}
+use Rattle.std.specs.Prelude.{sum}
 use Rattle.spool_file.specs.Slot.{Message}
 use Rattle.trace_log.specs.Log.{Happening}
 use Rattle.tool_step.specs.Equipment.{settled_list}
@@ -110,7 +111,7 @@ told-as v w list base notes stood works told = record {
   lines = told.lines;
   noted = told.noted;
   pairs =
-      subst (λ (at : Stand). AreInPairs at.next list w.works (changes_in told.lines)) (sym stood)
+      subst (λ (at : Numbered). AreInPairs (at.first + sum at.sizes) list w.works (changes_in told.lines)) (sym stood)
       (subst (λ (ws : List Work). AreInPairs (stood_count v).next list ws (changes_in told.lines)) (sym works)
       told.pairs);
 }

@@ -2,7 +2,7 @@
 -- ledger.
 use Rattle.std.proofs.Common.{◌≡◌, ◌≢◌, refl, sym, ap, subst, ◌∙◌, inl, inr, arith, ◌<◌, ◌≤◌, ◌+◌, ◌-◌, ◌^◌, ◌==◌, nat_le, nat_lt, Bool, true, false, ℕ, List, [], ◌∷◌, ◌++◌, ◌⊎◌, drop, length, length-append, Option, Some, None, not, if◌then◌else◌}
 use Rattle.std.proofs.lemmas.Bool.Decides.{nat_tests}
-use Rattle.std.specs.Prelude.{sum}
+use Rattle.std.specs.Prelude.{map, sum}
 use Rattle.gem_spool.specs.Works.{count_after, counts_after, list_after, lists_after}
 use Rattle.gem_spool.specs.declared.count.Count.{Count}
 use Rattle.gem_spool.specs.declared.spool.Room.{Room}
@@ -14,10 +14,15 @@ use Rattle.message_end.specs.Course.{noted_behind}
 use Rattle.message_end.specs.Own.{Has}
 use Rattle.spool_law.specs.Shelf.{Change, IsAtRest, IsFirst, MayChange, MayLeaveFor, Policy, change_of, leaves_by, shelf_changed, shelf_of}
 use Rattle.spool_ledger.specs.Ledger.{Booked, IsLedger, LedgerView, carried_out, is_full, next_of, owed, quiet, room_for, size_of, stood_count}
-use Rattle.spool_ledger.specs.Storing.{all_out, oldest_of, oldest_out, put, room_made, stored, stored_by, with_room}
+use Rattle.spool_ledger.specs.Sizes.{oldest_of}
+use Rattle.spool_ledger.specs.Storing.{all_out, oldest_out, put, room_made, stored, stored_by, with_room}
 use Rattle.spool_ledger.proofs.Following.{made_comes}
-use Rattle.spool_ledger.proofs.Keeping.{even-sum, fits_free, fits_one, fits_short, full_fits, full_short, is-below, long-last, long-rest, made_if, made_stays, makes_room, oldest-one, oldest_out_keeps}
-use Rattle.spool_file.specs.Slot.{Message}
+use Rattle.spool_ledger.proofs.Keeping.{full_fits, made_if, made_stays, makes_room, oldest_out_keeps, sum-last, sum-parted}
+use Rattle.spool_ledger.proofs.Limits.{fits_within, full_within, is-below, within_short}
+use Rattle.spool_file.specs.Run.{IsChainFrom}
+use Rattle.spool_file.specs.Slot.{Message, width}
+use Rattle.spool_file.proofs.Runs.{chain_last}
+use Rattle.spool_ledger.proofs.Widths.{widths-last, widths-long, widths-rest}
 use Rattle.trace_log.specs.Log.{Happening}
 use Rattle.trace_log.specs.Log.Happening.{Discarded, Gone, Leaving, TooLong}
 use Rattle.trace_log.specs.Names.{Spooled, spooled_name}
@@ -32,7 +37,7 @@ use Rattle.tool_spool.specs.InPairs.{IsOfOne}
 use Rattle.tool_spool.specs.LeavesInStep.{MayChangeInStep, MayLeaveInStep}
 use Rattle.tool_spool.specs.MadeRoom.{IsRoomUsed, IsUsedBy, made_for}
 use Rattle.tool_spool.specs.SpoolKept.{sizes_of}
-use Rattle.tool_spool.proofs.EvenRuns.{IsEvenRun, run-below, run-first, run-last, run-rest, run-taken}
+use Rattle.tool_spool.proofs.Chained.{chain-below, chain-first, chain-rest, sizes-found}
 use Rattle.tool_spool.proofs.FromStarts.{KeepsOn}
 use Rattle.tool_spool.proofs.PairedLines.{AreTold, told-more, told-none, told-work}
 use Rattle.tool_law.proofs.WorkLines.{AreLines, LeavesStanding, lines-more, lines-none, lines-work, quiet-change}
@@ -71,8 +76,8 @@ pub record IsShelvedSo (Closed : List Happening → Type 0)
   pub kept : KeepsOn policy notes
   pub rest : IsAtRest (shelf_of notes)
   pub stands : (shelf_of notes).stands ≡ found_in (settled_list v list)
-  pub run : IsEvenRun v.first (settled_list v list)
-  pub long : length (settled_list v list) ≡ length v.sizes
+  pub chain : IsChainFrom v.first (next_of v) (settled_list v list)
+  pub sizes : map width (settled_list v list) ≡ v.sizes
   pub lines : AreLines v list base notes
   pub told : AreTold v list base notes
   pub closed : Closed notes
@@ -95,8 +100,8 @@ shelved-for for_one policy v list base notes is = record {
   kept = is.kept;
   rest = is.rest;
   stands = is.stands;
-  run = is.run;
-  long = is.long;
+  chain = is.chain;
+  sizes = is.sizes;
   lines = is.lines;
   told = is.told;
   closed = inl is.closed;
@@ -109,8 +114,8 @@ shelved-closed for_one policy v list base notes closed is = record {
   kept = is.kept;
   rest = is.rest;
   stands = is.stands;
-  run = is.run;
-  long = is.long;
+  chain = is.chain;
+  sizes = is.sizes;
   lines = is.lines;
   told = is.told;
   closed = closed;
@@ -144,7 +149,7 @@ some-inj x y same = cc
 
 -- there is room for a message that is short enough where it and all that stand take no more slots than there are
 pub record CountsSlots (policy : Policy) (slots : ℕ) : Type 0 where
-  pub room : (stands : List (ℕ × Spooled)) (message : Spooled) → length message.body ≤ 4081
+  pub room : (stands : List (ℕ × Spooled)) (message : Spooled) → length message.body ≤ 1048576
       → sum (sizes_of stands) + size_of message ≤ slots → policy.has_room stands message ≡ true
   pub full : (stands : List (ℕ × Spooled)) (message : Spooled) → slots < sum (sizes_of stands) + size_of message
       → policy.has_room stands message ≡ false
@@ -168,8 +173,8 @@ module _ (policy : Policy) where
         kept = inr (may, inl is.closed, quiet-in-step policy (change_of what) notes leaves, is.kept);
         rest = all.0;
         stands = all.1 ∙ is.stands;
-        run = is.run;
-        long = is.long;
+        chain = is.chain;
+        sizes = is.sizes;
         lines = lines-more v list base notes what (quiet-change what leaves) is.lines;
         told = told-more v list base notes what leaves is.told;
         closed = used-behind (change_of what) notes leaves;
@@ -199,8 +204,8 @@ module _ (policy : Policy) where
         kept = is.kept;
         rest = is.rest;
         stands = is.stands;
-        run = is.run;
-        long = is.long;
+        chain = is.chain;
+        sizes = is.sizes;
         lines = lines-none (carried_out v) (settled_list v list) notes refl;
         told = told-none (carried_out v) (settled_list v list) notes refl;
         closed = is.closed;
@@ -215,7 +220,7 @@ module _ (policy : Policy) where
       → sum (sizes_of (shelf_of notes).stands) ≡ sum v.sizes
   taken-is Closed v list base notes is so =
       ap (λ (stands : List (ℕ × Spooled)). sum (sizes_of stands)) so.stands
-      ∙ run-taken v.first (settled_list v list) so.run ∙ so.long ∙ sym (even-sum v.sizes is.even)
+      ∙ ap (λ (ns : List ℕ). sum ns) (sizes-found (settled_list v list) ∙ so.sizes)
 
   module _ (v : LedgerView) (list : List Message) (base notes : List Happening) (message : Spooled)
       (is : IsLedger v) (counts : CountsSlots policy v.slots) (fits : room_for v (length message.body) ≡ room.Fits)
@@ -242,15 +247,13 @@ module _ (policy : Policy) where
             record {
               rest = shelved.rest;
               above = λ one has.
-                  let below = run-below v.first (settled_list v list) shelved.run one
-                  (subst (λ (all : List (ℕ × Spooled)). Has all one) shelved.stands has) in
-                  let long = shelved.long in
-                  let even = even-sum v.sizes is.even in
-                  omega (arith, below, long, even);
+                  chain-below v.first (next_of v) (settled_list v list) shelved.chain one
+                  (subst (λ (all : List (ℕ × Spooled)). Has all one) shelved.stands has);
               room =
                   let taken = taken-is (IsMadeFor (Some message)) v list base notes is shelved in
-                  let free = fits_free v (length message.body) fits in
-                  counts.room (shelf_of notes).stands message (fits_short v (length message.body) fits)
+                  let within = fits_within v (length message.body) fits in
+                  let free = within.1 in
+                  counts.room (shelf_of notes).stands message (within_short v (length message.body) within.0).0
                   (omega (arith, taken, free));
             },
             shelved.closed,
@@ -262,14 +265,16 @@ module _ (policy : Policy) where
         stands =
             ap (λ (all : List (ℕ × Spooled)). all ++ (next_of v, message) ∷ []) shelved.stands
             ∙ sym (found-behind (settled_list v list) numbered) ∙ ap found_in (sym put-list);
-        run =
-            subst (IsEvenRun v.first) (sym put-list)
-            (run-last v.first (settled_list v list) numbered shelved.run
-            (let long = shelved.long in let even = even-sum v.sizes is.even in omega (arith, long, even))
-            (fits_one v (length message.body) fits));
-        long =
-            ap length put-list ∙ length-append (settled_list v list) (numbered ∷ [])
-            ∙ ap (λ (n : ℕ). n + 1) shelved.long ∙ sym (long-last v.sizes (size_of message));
+        chain =
+            subst (IsChainFrom v.first (next_of (put message v).next)) (sym put-list)
+            (subst (λ (n : ℕ). IsChainFrom v.first n (settled_list v list ++ numbered ∷ []))
+            (let all = sum-last v.sizes (size_of message) in
+            let behind : next_of v + size_of message ≡ v.first + sum (v.sizes ++ size_of message ∷ []) =
+            omega (arith, all) in behind)
+            (chain_last v.first (next_of v) (settled_list v list) numbered shelved.chain refl));
+        sizes =
+            ap (map width) put-list ∙ widths-last (settled_list v list) numbered
+            ∙ ap (λ (ns : List ℕ). ns ++ size_of message ∷ []) shelved.sizes;
         lines =
             lines-work v (put message v).next list base notes
             (work.Put message.stream message.function message.body) (Happening.Storing (next_of v) message)
@@ -291,12 +296,11 @@ module _ (policy : Policy) where
       out-list : settled_list (oldest_out why for_one v).next list ≡ drop 1 (settled_list v list)
       out-list = settled-more v list (work.DropOldest (oldest_of v.sizes)) is
 
-      one : oldest_of v.sizes ≡ 1
-      one = oldest-one v.sizes is.even some
-
       pub first-listed : IsFirst (found_in (settled_list v list)) v.first
       first-listed =
-          run-first v.first (settled_list v list) shelved.run (let long = shelved.long in omega (arith, some, long))
+          let long = ap (λ (ns : List ℕ). length ns) shelved.sizes in
+          let same = widths-long (settled_list v list) in
+          chain-first v.first (next_of v) (settled_list v list) shelved.chain (omega (arith, some, long, same))
 
       pub first-is : IsFirst (shelf_of notes).stands v.first
       first-is = subst (λ (all : List (ℕ × Spooled)). IsFirst all v.first) (sym shelved.stands) first-listed
@@ -305,10 +309,6 @@ module _ (policy : Policy) where
       one-leaves cause.Confirmed not count = refl
       one-leaves cause.Purged not count = absurd (not refl)
       one-leaves cause.Overwritten not count = refl
-
-      less : (list2 : List Message) (n : ℕ) → length list2 ≡ n → length (drop 1 list2) ≡ n - 1
-      less [] n same = omega (arith, same)
-      less (x ∷ list2) n same = omega (arith, same)
 
       pub out-shelved :
           why ≢ cause.Purged → MayLeaveFor policy notes why for_one → MayLeaveInStep policy notes v.first why
@@ -330,12 +330,17 @@ module _ (policy : Policy) where
         stands =
             ap (λ (n : ℕ). drop n (shelf_of notes).stands) (one-leaves why alone (length (shelf_of notes).stands))
             ∙ ap (drop 1) shelved.stands ∙ found-rest (settled_list v list) ∙ ap found_in (sym out-list);
-        run =
-            subst (λ (n : ℕ). IsEvenRun (v.first + n) (settled_list (oldest_out why for_one v).next list)) (sym one)
-            (subst (IsEvenRun (v.first + 1)) (sym out-list) (run-rest v.first (settled_list v list) shelved.run));
-        long =
-            ap length out-list ∙ less (settled_list v list) (length v.sizes) shelved.long
-            ∙ sym (long-rest v.sizes);
+        chain =
+            subst (IsChainFrom (v.first + oldest_of v.sizes) (next_of (oldest_out why for_one v).next)) (sym out-list)
+            (subst
+            (λ (n : ℕ). IsChainFrom (v.first + oldest_of v.sizes) n (drop 1 (settled_list v list)))
+            (let parted = sum-parted v.sizes in
+            let same : next_of v ≡ v.first + oldest_of v.sizes + sum (drop 1 v.sizes) = omega (arith, parted) in same)
+            (subst
+            (λ (ns : List ℕ). IsChainFrom (v.first + oldest_of ns) (next_of v) (drop 1 (settled_list v list)))
+            shelved.sizes (chain-rest v.first (next_of v) (settled_list v list) shelved.chain)));
+        sizes =
+            ap (map width) out-list ∙ widths-rest (settled_list v list) ∙ ap (drop 1) shelved.sizes;
         lines =
             lines-work v (oldest_out why for_one v).next list base notes (work.DropOldest (oldest_of v.sizes))
             (Leaving v.first why for_one)
@@ -420,8 +425,10 @@ module _ (policy : Policy) where
             );
             rest = record { none_stored = shelved.rest.none_stored; none_leaves = refl };
             stands = drop-all (shelf_of notes).stands ∙ ap found_in (sym (settled-more v list work.Purge is));
-            run = subst (IsEvenRun (next_of v)) (sym (settled-more v list work.Purge is)) tt;
-            long = ap length (settled-more v list work.Purge is);
+            chain =
+                subst (IsChainFrom (next_of v) (next_of v + 0)) (sym (settled-more v list work.Purge is))
+                (let none : next_of v ≡ next_of v + 0 = omega arith in none);
+            sizes = ap (map width) (settled-more v list work.Purge is);
             lines =
                 lines-work v emptied list base notes work.Purge (Leaving v.first cause.Purged None) (Gone v.first) is refl
                 refl refl refl
@@ -449,7 +456,7 @@ module _ (policy : Policy) where
     where
       -- such notes may be followed by removals for the message, each where the policy says so
       module _ (Open : List Happening → Type 0) (opened : MayOverwrite policy message Open)
-          (short : length message.body ≤ 4081) where
+          (short : length message.body ≤ 1048576) where
         room-shelved :
             (sizes : List ℕ) (w : LedgerView) (ns : List Happening) → sizes ≡ w.sizes → IsLedger w → w.slots ≡ v.slots
             → size_of message ≤ w.slots → Open ns → IsShelvedFor (Some message) policy w list base ns
@@ -523,7 +530,8 @@ module _ (policy : Policy) where
               (made_comes (size_of message) (Some message) v.sizes v is refl).is
               (subst (CountsSlots policy) (sym (made_stays (size_of message) (Some message) v.sizes v).0) counts)
               (makes_room v message is e)
-              (room-shelved Open (may refl) (full_short v (length message.body) e) v.sizes v notes refl is refl fits.0 open_now
+              (room-shelved Open (may refl) (within_short v (length message.body) (full_within v (length message.body) e).0).0
+              v.sizes v notes refl is refl fits.0 open_now
               (shelved-for (Some message) policy v list base notes shelved))))
           go room.Full false e may same =
               subst (λ (b : Booked). IsShelved policy b.next list base (noted_behind b.lines notes)) (some-inj _ _ same)

@@ -16,7 +16,8 @@ use Rattle.spool_law.specs.Shelf.{IsPurge, Told, received_since, shelf_of}
 use Rattle.spool_ledger.specs.Ledger.{Booked, IsLedger, LedgerView}
 use Rattle.spool_ledger.specs.Storing.{all_out, stored}
 use Rattle.spool_ledger.specs.Unloading.{tried_in}
-use Rattle.spool_ledger.specs.declared.ledger.Stand.{Stand}
+use Rattle.spool_ledger.specs.Ledger.{Numbered, count_by}
+use Rattle.spool_ledger.specs.Sizes.{AreSizedBy}
 use Rattle.spool_ledger.specs.declared.unload.Unload.{Unload}
 use Rattle.spool_file.specs.Slot.{Message as Put}
 use Rattle.trace_log.specs.InStep.{received_in_step}
@@ -85,10 +86,6 @@ module _ (plan : EquipmentPlan) (slots : ℕ) (list : List Put) (base before : L
     pub under_way : IsUnder own.ledger core notes
     pub reports : ArePutWell own.reports
 
-  -- what the disk has
-  abbrev pub count_at : Stand → Count
-  count_at at = record { slots = slots; next = at.next; len = at.len }
-
   -- where the numbers are spent the notes keep the law all the same, and go with what is owed, and each work finds
   -- room, or its message
   pub record IsSpentAt (v : LedgerView) (notes : List Happening) : Type 0 where
@@ -96,7 +93,8 @@ module _ (plan : EquipmentPlan) (slots : ℕ) (list : List Put) (base before : L
     pub lines : AreLines v list base notes
     pub told : AreTold v list base notes
     pub closed : IsRoomUsed notes
-    pub due : AreDue (count_at v.stood) v.works
+    pub due : AreDue (count_by slots v.stood) v.works
+    pub sized : AreSizedBy v.stood.sizes v.works
 
   pub spent-at :
       (v : LedgerView) (notes : List Happening) → IsLedger v → v.slots ≡ slots
@@ -106,9 +104,8 @@ module _ (plan : EquipmentPlan) (slots : ℕ) (list : List Put) (base before : L
     lines = shelved.lines;
     told = shelved.told;
     closed = shelved.closed;
-    due =
-        subst (λ (n : ℕ). AreDue (record { slots = n; next = v.stood.next; len = v.stood.len }) v.works)
-        all is.due;
+    due = subst (λ (n : ℕ). AreDue (count_by n v.stood) v.works) all is.due;
+    sized = is.sized;
   }
 
   -- a ledger that owes the same
@@ -120,8 +117,11 @@ module _ (plan : EquipmentPlan) (slots : ℕ) (list : List Put) (base before : L
     told = told-as v w list base notes stood works is.told;
     closed = is.closed;
     due =
-        subst (λ (at : Stand). AreDue (count_at at) w.works) (sym stood)
-        (subst (λ (ws : List Work). AreDue (count_at v.stood) ws) (sym works) is.due);
+        subst (λ (at : Numbered). AreDue (count_by slots at) w.works) (sym stood)
+        (subst (λ (ws : List Work). AreDue (count_by slots v.stood) ws) (sym works) is.due);
+    sized =
+        subst (λ (at : Numbered). AreSizedBy at.sizes w.works) (sym stood)
+        (subst (λ (ws : List Work). AreSizedBy v.stood.sizes ws) (sym works) is.sized);
   }
 
   abbrev pub Ends : OwnView → Went (EndView Kind) Happening → Type 0

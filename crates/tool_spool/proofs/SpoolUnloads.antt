@@ -23,6 +23,7 @@ use Rattle.equipment_tables.specs.declared.answers.Answer.{Answer as Text}
 use Rattle.equipment_tables.specs.declared.answers.Answer.TheVariants as answer
 use Rattle.equipment_tables.specs.declared.plan.EquipmentPlan.{EquipmentPlan}
 use Rattle.equipment_tables.specs.Tables.{most_transmitted}
+use Rattle.spool_ledger.proofs.Widths.{widths-long}
 use Rattle.tool_step.specs.declared.kind.Kind.{Kind}
 use Rattle.tool_step.specs.Equipment.{settled_list}
 use Rattle.spool_works.specs.Found.{spooled_of}
@@ -422,7 +423,8 @@ module _ (plan : EquipmentPlan) (slots : ℕ) (list : List Put) (base before : L
       go (Some number) is None of = held
       go (Some number) is (Some message) of =
           takes number (next-is most own.ledger number is) message (settled_list own.ledger list) refl
-          holds.shelved.long of
+          (sym (widths-long (settled_list own.ledger list))
+          ∙ ap (λ (ns : List ℕ). length ns) holds.shelved.sizes) of
 
   -- ---- with a grant it goes
 

@@ -67,6 +67,6 @@ module _ (base : List Happening) where
           → IsUsed front
       go (inl same) later = subst IsUsed (sym same) up
       go (inr has) later = later has
-  fronts-used (DiskWork.ReadOldest ∷ works) before notes front first all (inl same) = subst IsUsed (sym same) all
-  fronts-used (DiskWork.ReadOldest ∷ works) before notes front first all (inr has) =
+  fronts-used (DiskWork.ReadOldest slots ∷ works) before notes front first all (inl same) = subst IsUsed (sym same) all
+  fronts-used (DiskWork.ReadOldest slots ∷ works) before notes front first all (inr has) =
       fronts-used works before notes front first all has

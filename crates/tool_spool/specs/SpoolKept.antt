@@ -10,6 +10,7 @@ use Rattle.spool_file.specs.File.{SpoolFile}
 use Rattle.spool_file.specs.Format.{empty_file}
 use Rattle.spool_ledger.specs.Ledger.{size_of}
 use Rattle.spool_file.specs.Run.{IsChainFrom}
+use Rattle.spool_file.specs.Slot.{width}
 use Rattle.spool_works.specs.Found.{first_in, found_in}
 use Rattle.trace_log.specs.Log.{Happening}
 use Rattle.trace_log.specs.Names.{Spooled}
@@ -33,24 +34,28 @@ is_purge _ = false
 abbrev pub sizes_of : List (ℕ × Spooled) → List ℕ
 sizes_of stands = map (λ one. size_of one.1) stands
 
--- a slot holds 4,081 bytes, and a body has one slot; there is room for it where it and all that stand take no more slots
--- than there are; and OverWriteSpool is looked back for (SEMI E30, spooling)
+-- a body has at most a mebibyte; there is room for it where it and all that stand take no more slots than there are; and
+-- OverWriteSpool is looked back for (SEMI E30, spooling)
 abbrev pub policy_of : EquipmentPlan → ℕ → Policy
 policy_of plan slots = record {
   purges = λ message. is_purge (request_of message.stream message.function message.body);
   has_room = λ stands message.
-      nat_le (length message.body) 4081 && nat_le (sum (sizes_of stands) + size_of message) slots;
+      nat_le (length message.body) 1048576 && nat_le (sum (sizes_of stands) + size_of message) slots;
   overwrites = λ notes. overwrites (tables_in plan notes);
 }
 
 -- ---- over a file of an earlier run
 
--- what a file may hold as the equipment starts over it: as many messages as slots at most, numbered one after the other,
--- each of which takes one slot and can be sent; and the floor has the same bound as their numbers (this profile)
+-- how many slots its messages take
+abbrev pub used_in : SpoolFile → ℕ
+used_in file = sum (map width file.list)
+
+-- what a file may hold as the equipment starts over it: messages that take no more slots than there are, numbered one
+-- after the other, each of which can be sent; and the floor has the same bound as their numbers (this profile)
 pub record MayHold (file : SpoolFile) : Type 0 where
-  pub run : IsChainFrom (first_in file) (first_in file + length file.list) file.list
-  pub room : length file.list ≤ file.slots
-  pub bound : first_in file + length file.list ≤ 2 ^ 63 + 65535
+  pub chain : IsChainFrom (first_in file) (first_in file + used_in file) file.list
+  pub room : used_in file ≤ file.slots
+  pub bound : first_in file + used_in file ≤ 2 ^ 63 + 65535
   pub floor : file.floor.value ≤ 2 ^ 63 + 65535
   pub sent : AllCanBeSent file.list
 

@@ -1,30 +1,80 @@
 -- How often power may be lost in a step, and what is noted by then: proofs, which stand here since an impl cites them.
-use Rattle.std.proofs.Common.{◌≡◌, refl, sym, ap, subst, ◌⊎◌, inl, inr, arith, ◌+◌, ℕ, List, [], ◌∷◌, ◌++◌, length, map}
+use Rattle.std.proofs.Common.{◌≡◌, ◌∙◌, refl, sym, ap, subst, ◌⊎◌, inl, inr, arith, ◌+◌, ℕ, List, [], ◌∷◌, ◌++◌, length, map}
+use Rattle.std.proofs.lemmas.List.Sums.{sum_by-append, sum_by-cons}
+use Rattle.std.specs.List.{sum_by}
 use Rattle.gem_spool.specs.Standing.{Standing}
 use Rattle.message_end.specs.Core.{step_in}
 use Rattle.message_end.specs.Ends.{Loss}
 use Rattle.message_end.specs.Own.{Has}
 use Rattle.trace_log.specs.Log.{Happening}
-use Rattle.spool_works.specs.DiskWorks.{DiskWork, all_calls, behind_change, calls_of, fronts_of, standing_behind, up_to_change}
+use Rattle.spool_works.specs.DiskWorks.{DiskWork, all_bytes, all_calls, behind_change, bytes_of, calls_of, fronts_of}
+use Rattle.spool_works.specs.DiskWorks.{standing_behind, up_to_change}
 use Rattle.tool_step.specs.Disk.{standing_in, works_of}
 use Rattle.spool_works.specs.DiskWorks.DiskWork.{Change, ReadOldest, Reserve}
 use Rattle.tool_step.specs.Equipment.{EquipmentView, begun_step}
 use Rattle.tool_step.specs.Losses.{LossesAreCounted, loss_at, losses_of}
-use Rattle.spool_works.specs.WorkLosses.{calls_at}
+use Rattle.spool_works.specs.WorkLosses.{calls_at, lost_calls}
 use Rattle.gem_spool.specs.Updates.{Left}
 use Rattle.message_end.proofs.Members.{has-either}
-use Rattle.spool_works.proofs.LossCounts.{length-both, Each, calls-count}
+use Rattle.spool_works.proofs.LossCounts.{AllOf, Each, length-both, lost-bytes, lost-count, lost-each}
 
 -- ---- all works of a step
 
 module _ (s : EquipmentView) where
   both-count :
       (st : Standing) (one : DiskWork) (front : List Happening) (rest : List (Loss EquipmentView)) (n : ℕ)
-      → length rest ≡ n → length (map (loss_at s front) (calls_at st one) ++ rest) ≡ calls_of st one + n
+      → length rest ≡ n → length (map (loss_at s front) (lost_calls st one) ++ rest) ≡ calls_of st one + n
   both-count st one front rest n is =
-      let both = length-both (loss_at s front) (calls_at st one) rest in
-      let calls = calls-count st one in
+      let both = length-both (loss_at s front) (lost_calls st one) rest in
+      let calls = lost-count st one in
       omega (arith, both, calls, is)
+
+  -- and the bytes that they write
+  abbrev written : List (Loss EquipmentView) → ℕ
+  written losses = sum_by (λ (loss : Loss EquipmentView). loss.bytes) losses
+
+  map-bytes : (front : List Happening) (lost : List (ℕ × Left))
+      → written (map (loss_at s front) lost) ≡ sum_by (λ (call : ℕ × Left). call.0) lost
+  map-bytes front [] = refl
+  map-bytes front (call ∷ lost) =
+      sum_by-cons (λ (loss : Loss EquipmentView). loss.bytes) (loss_at s front call) (map (loss_at s front) lost)
+      ∙ ap (λ (n : ℕ). call.0 + n) (map-bytes front lost)
+      ∙ sym (sum_by-cons (λ (one : ℕ × Left). one.0) call lost)
+
+  -- one by one
+  pub map-sizes : (front : List Happening) (lost : List (ℕ × Left))
+      → map (λ (loss : Loss EquipmentView). loss.bytes) (map (loss_at s front) lost)
+      ≡ map (λ (call : ℕ × Left). call.0) lost
+  map-sizes front [] = refl
+  map-sizes front (call ∷ lost) = ap (λ (sizes : List ℕ). call.0 ∷ sizes) (map-sizes front lost)
+
+  both-bytes :
+      (st : Standing) (one : DiskWork) (front : List Happening) (rest : List (Loss EquipmentView)) (n : ℕ)
+      → written rest ≡ n → written (map (loss_at s front) (lost_calls st one) ++ rest) ≡ bytes_of st one + n
+  both-bytes st one front rest n is =
+      let both =
+      sum_by-append (λ (loss : Loss EquipmentView). loss.bytes) (map (loss_at s front) (lost_calls st one)) rest in
+      let here = map-bytes front (lost_calls st one) in
+      let bytes = lost-bytes st one in
+      omega (arith, both, here, bytes, is)
+
+  pub losses-bytes :
+      (works : List DiskWork) (st : Standing) (before notes : List Happening)
+      → written (losses_of s st before works notes) ≡ all_bytes st works
+  losses-bytes [] st before notes = refl
+  losses-bytes (Reserve ∷ works) st before notes =
+      both-bytes st Reserve before (losses_of s (standing_behind st Reserve) before works notes)
+      (all_bytes (standing_behind st Reserve) works) (losses-bytes works (standing_behind st Reserve) before notes)
+  losses-bytes (Change one ∷ works) st before notes =
+      let front = before ++ up_to_change notes in
+      both-bytes st (Change one) front
+      (losses_of s (standing_behind st (Change one)) front works (behind_change notes))
+      (all_bytes (standing_behind st (Change one)) works)
+      (losses-bytes works (standing_behind st (Change one)) front (behind_change notes))
+  losses-bytes (ReadOldest slots ∷ works) st before notes =
+      both-bytes st (ReadOldest slots) (before ++ notes) (losses_of s (standing_behind st (ReadOldest slots)) before works notes)
+      (all_bytes (standing_behind st (ReadOldest slots)) works) (losses-bytes works (standing_behind st (ReadOldest slots)) before
+      notes)
 
   pub losses-count :
       (works : List DiskWork) (st : Standing) (before notes : List Happening)
@@ -39,23 +89,23 @@ module _ (s : EquipmentView) where
       (losses_of s (standing_behind st (Change one)) front works (behind_change notes))
       (all_calls (standing_behind st (Change one)) works)
       (losses-count works (standing_behind st (Change one)) front (behind_change notes))
-  losses-count (ReadOldest ∷ works) st before notes =
-      both-count st ReadOldest (before ++ notes) (losses_of s (standing_behind st ReadOldest) before works notes)
-      (all_calls (standing_behind st ReadOldest) works) (losses-count works (standing_behind st ReadOldest) before
+  losses-count (ReadOldest slots ∷ works) st before notes =
+      both-count st (ReadOldest slots) (before ++ notes) (losses_of s (standing_behind st (ReadOldest slots)) before works notes)
+      (all_calls (standing_behind st (ReadOldest slots)) works) (losses-count works (standing_behind st (ReadOldest slots)) before
       notes)
 
   -- ---- what is noted by then
 
   pub same-front :
-      (front : List Happening) (calls : List Left) (loss : Loss EquipmentView) → Has (map (loss_at s front) calls) loss
-      → loss.front ≡ front
+      (front : List Happening) (calls : List (ℕ × Left)) (loss : Loss EquipmentView)
+      → Has (map (loss_at s front) calls) loss → loss.front ≡ front
   same-front front [] loss has = absurd has
   same-front front (left ∷ calls) loss (inl same) = ap (λ (one : Loss EquipmentView). one.front) same
   same-front front (left ∷ calls) loss (inr has) = same-front front calls loss has
 
   first-or-later :
-      (front : List Happening) (calls : List Left) (rest : List (Loss EquipmentView)) (fronts : List (List Happening))
-      (loss : Loss EquipmentView) → (Has rest loss → Has fronts loss.front)
+      (front : List Happening) (calls : List (ℕ × Left)) (rest : List (Loss EquipmentView))
+      (fronts : List (List Happening)) (loss : Loss EquipmentView) → (Has rest loss → Has fronts loss.front)
       → Has (map (loss_at s front) calls ++ rest) loss → Has (front ∷ fronts) loss.front
   first-or-later front calls rest fronts loss more has = go (has-either (map (loss_at s front) calls) rest loss has)
     where
@@ -68,18 +118,18 @@ module _ (s : EquipmentView) where
       → Has (losses_of s st before works notes) loss → Has (fronts_of before works notes) loss.front
   losses-fronts [] st before notes loss has = absurd has
   losses-fronts (Reserve ∷ works) st before notes loss has =
-      first-or-later before (calls_at st Reserve) (losses_of s (standing_behind st Reserve) before works notes)
+      first-or-later before (lost_calls st Reserve) (losses_of s (standing_behind st Reserve) before works notes)
       (fronts_of before works notes) loss (losses-fronts works (standing_behind st Reserve) before notes loss) has
   losses-fronts (Change one ∷ works) st before notes loss has =
       let front = before ++ up_to_change notes in
-      first-or-later front (calls_at st (Change one))
+      first-or-later front (lost_calls st (Change one))
       (losses_of s (standing_behind st (Change one)) front works (behind_change notes))
       (fronts_of front works (behind_change notes)) loss
       (losses-fronts works (standing_behind st (Change one)) front (behind_change notes) loss) has
-  losses-fronts (ReadOldest ∷ works) st before notes loss has =
-      first-or-later (before ++ notes) (calls_at st ReadOldest)
-      (losses_of s (standing_behind st ReadOldest) before works notes) (fronts_of before works notes) loss
-      (losses-fronts works (standing_behind st ReadOldest) before notes loss) has
+  losses-fronts (ReadOldest slots ∷ works) st before notes loss has =
+      first-or-later (before ++ notes) (lost_calls st (ReadOldest slots))
+      (losses_of s (standing_behind st (ReadOldest slots)) before works notes) (fronts_of before works notes) loss
+      (losses-fronts works (standing_behind st (ReadOldest slots)) before notes loss) has
 
 -- ---- each loss of a step
 
@@ -92,28 +142,32 @@ AtEach P st before (Reserve ∷ works) notes =
 AtEach P st before (Change one ∷ works) notes =
     Each (P (before ++ up_to_change notes)) (calls_at st (Change one))
     × AtEach P (standing_behind st (Change one)) (before ++ up_to_change notes) works (behind_change notes)
-AtEach P st before (ReadOldest ∷ works) notes =
-    Each (P (before ++ notes)) (calls_at st ReadOldest) × AtEach P (standing_behind st ReadOldest) before works notes
+AtEach P st before (ReadOldest slots ∷ works) notes =
+    Each (P (before ++ notes)) (calls_at st (ReadOldest slots)) × AtEach P (standing_behind st (ReadOldest slots)) before works notes
 
 -- a loss is at a call of which this holds
 pub record IsAtCall (P : List Happening → Left → Type 0) (s : EquipmentView) (loss : Loss EquipmentView) : Type 0 where
+  pub bytes : ℕ
   pub left : Left
-  pub is : loss ≡ loss_at s loss.front left
+  pub is : loss ≡ loss_at s loss.front (bytes, left)
   pub at : P loss.front left
 
 module _ (P : List Happening → Left → Type 0) (s : EquipmentView) where
+  abbrev Q : List Happening → ℕ × Left → Type 0
+  Q front lost = P front lost.1
+
   one-call :
-      (front : List Happening) (calls : List Left) (loss : Loss EquipmentView) → Each (P front) calls
+      (front : List Happening) (calls : List (ℕ × Left)) (loss : Loss EquipmentView) → AllOf (Q front) calls
       → Has (map (loss_at s front) calls) loss → IsAtCall P s loss
   one-call front [] loss each has = absurd has
-  one-call front (left ∷ calls) loss each (inl same) =
+  one-call front (lost ∷ calls) loss each (inl same) =
       subst (λ (one : Loss EquipmentView). IsAtCall P s one) (sym same)
-      (record { left = left; is = refl; at = each.0 })
-  one-call front (left ∷ calls) loss each (inr has) = one-call front calls loss each.1 has
+      (record { bytes = lost.0; left = lost.1; is = refl; at = each.0 })
+  one-call front (lost ∷ calls) loss each (inr has) = one-call front calls loss each.1 has
 
   one-or-later :
-      (front : List Happening) (calls : List Left) (rest : List (Loss EquipmentView)) (loss : Loss EquipmentView)
-      → Each (P front) calls → (Has rest loss → IsAtCall P s loss) → Has (map (loss_at s front) calls ++ rest) loss
+      (front : List Happening) (calls : List (ℕ × Left)) (rest : List (Loss EquipmentView)) (loss : Loss EquipmentView)
+      → AllOf (Q front) calls → (Has rest loss → IsAtCall P s loss) → Has (map (loss_at s front) calls ++ rest) loss
       → IsAtCall P s loss
   one-or-later front calls rest loss each more has = go (has-either (map (loss_at s front) calls) rest loss has)
     where
@@ -126,22 +180,27 @@ module _ (P : List Happening → Left → Type 0) (s : EquipmentView) where
       → AtEach P st before works notes → Has (losses_of s st before works notes) loss → IsAtCall P s loss
   at-call [] st before notes loss each has = absurd has
   at-call (Reserve ∷ works) st before notes loss each has =
-      one-or-later before (calls_at st Reserve) (losses_of s (standing_behind st Reserve) before works notes) loss
-      each.0
+      one-or-later before (lost_calls st Reserve) (losses_of s (standing_behind st Reserve) before works notes) loss
+      (lost-each (P before) st Reserve each.0)
       (at-call works (standing_behind st Reserve) before notes loss each.1) has
   at-call (Change one ∷ works) st before notes loss each has =
       let front = before ++ up_to_change notes in
-      one-or-later front (calls_at st (Change one))
-      (losses_of s (standing_behind st (Change one)) front works (behind_change notes)) loss each.0
+      one-or-later front (lost_calls st (Change one))
+      (losses_of s (standing_behind st (Change one)) front works (behind_change notes)) loss
+      (lost-each (P front) st (Change one) each.0)
       (at-call works (standing_behind st (Change one)) front (behind_change notes) loss each.1) has
-  at-call (ReadOldest ∷ works) st before notes loss each has =
-      one-or-later (before ++ notes) (calls_at st ReadOldest)
-      (losses_of s (standing_behind st ReadOldest) before works notes) loss each.0
-      (at-call works (standing_behind st ReadOldest) before notes loss each.1) has
+  at-call (ReadOldest slots ∷ works) st before notes loss each has =
+      one-or-later (before ++ notes) (lost_calls st (ReadOldest slots))
+      (losses_of s (standing_behind st (ReadOldest slots)) before works notes) loss
+      (lost-each (P (before ++ notes)) st (ReadOldest slots) each.0)
+      (at-call works (standing_behind st (ReadOldest slots)) before notes loss each.1) has
 
 pub losses-counted : LossesAreCounted
 losses-counted s input now = (
-  losses-count s (works_of s input now) (standing_in s) [] (step_in (begun_step s input now)).notes,
+  (
+    losses-count s (works_of s input now) (standing_in s) [] (step_in (begun_step s input now)).notes,
+    losses-bytes s (works_of s input now) (standing_in s) [] (step_in (begun_step s input now)).notes,
+  ),
   λ loss has.
       losses-fronts s (works_of s input now) (standing_in s) [] (step_in (begun_step s input now)).notes loss has,
 )

@@ -1,7 +1,7 @@
 -- The worked runs with the spool, computed.
 use Rattle.std.specs.Prelude.{refl}
 use Rattle.line_end.specs.Frames.{block_in, is_frame, sum_cause}
-use Rattle.spool_file.specs.Run.{slots_for}
+use Rattle.spool_file.specs.Sizes.{slots_for}
 use Rattle.tool_step.specs.Sampling.{sample_parts}
 use Rattle.tool_step.specs.Step.{late_parts}
 use Rattle.tool_step.specs.WorkedSpool.{FullSpools, LosesInOrder, PutsTheLast, SpoolingBegins, UnloadsInOrder}
@@ -23,5 +23,5 @@ unfolding late_parts sample_parts slots_for
 puts-the-last = record { spent = refl; notes = refl; stands = refl; works = refl }
 
 pub unloads-in-order : UnloadsInOrder
-unfolding block_in is_frame sum_cause late_parts sample_parts
+unfolding block_in is_frame sum_cause late_parts sample_parts slots_for
 unloads-in-order = record { first = refl; left = refl; second = refl; none = refl; inactive = refl }

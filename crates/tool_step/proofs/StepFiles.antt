@@ -10,7 +10,7 @@ use Rattle.message_end.specs.Ends.{Input}
 use Rattle.message_end.specs.Parts.{Node, after_parts}
 use Rattle.spool_ledger.specs.Ledger.{LedgerView, stood_count}
 use Rattle.spool_file.specs.File.{SpoolFile}
-use Rattle.spool_slots.specs.Changes.{with_mark_moved}
+use Rattle.spool_slots.specs.Files.{with_mark_moved}
 use Rattle.trace_log.specs.declared.commands.ToolCommand.{ToolCommand}
 use Rattle.trace_log.specs.Log.{Happening}
 use Rattle.tool_step.specs.declared.kind.Kind.{Kind}
@@ -29,6 +29,10 @@ slots-behind : (st : Standing) (works : List Work) → (standings_after st works
 slots-behind st [] = refl
 slots-behind st (one ∷ works) = slots-behind (standing_after st one) works
 
+version-behind : (st : Standing) (works : List Work) → (standings_after st works).file.version ≡ st.file.version
+version-behind st [] = refl
+version-behind st (one ∷ works) = version-behind (standing_after st one) works
+
 mark-behind : (st : Standing) (works : List Work) → (standings_after st works).file.mark ≡ st.file.mark
 mark-behind st [] = refl
 mark-behind st (one ∷ works) = mark-behind (standing_after st one) works
@@ -43,6 +47,9 @@ module _ (ledger : LedgerView) (file : SpoolFile) where
 
   pub settled-slots : (settled_file ledger file).slots ≡ file.slots
   settled-slots = slots-behind stood ledger.works
+
+  pub settled-version : (settled_file ledger file).version ≡ file.version
+  settled-version = version-behind stood ledger.works
 
   pub settled-mark : (settled_file ledger file).mark.value ≡ file.mark.value
   settled-mark = ap (λ (cell : Cell). cell.value) (mark-behind stood ledger.works)
@@ -85,3 +92,11 @@ act-slots s input now =
     ap (λ (file : SpoolFile). file.slots) (ended-file (begun_step s input now) now)
     ∙ settled-slots (step_in (begun_step s input now)).next.node.own.ledger (step_in (begun_step s input now)).next.file
     ∙ begun-file (λ (file : SpoolFile). file.slots ≡ s.file.slots) s input now refl refl
+
+pub act-version : (s : EquipmentView) (input : Input ToolCommand) (now : ℕ)
+    → (step_in (act s input now)).next.file.version ≡ s.file.version
+act-version s input now =
+    ap (λ (file : SpoolFile). file.version) (ended-file (begun_step s input now) now)
+    ∙ settled-version (step_in (begun_step s input now)).next.node.own.ledger
+    (step_in (begun_step s input now)).next.file
+    ∙ begun-file (λ (file : SpoolFile). file.version ≡ s.file.version) s input now refl refl

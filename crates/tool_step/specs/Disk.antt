@@ -9,6 +9,7 @@ use Rattle.message_end.specs.Core.Went.{Goes, Spent}
 use Rattle.message_end.specs.Ends.{Asked, Input}
 use Rattle.equipment_tables.specs.Tables.{most_transmitted}
 use Rattle.spool_ledger.specs.Ledger.{next_of}
+use Rattle.spool_ledger.specs.Sizes.{oldest_of}
 use Rattle.spool_ledger.specs.Unloading.{next_number}
 use Rattle.tool_step.specs.Equipment.{EquipmentView, begun_step, is_marked_out, needs_numbers}
 use Rattle.tool_step.specs.Own.{OwnView}
@@ -28,7 +29,8 @@ abbrev pub takes_up : OwnView → Bool
 takes_up own = is_some (next_number (most_transmitted own.tables) own.ledger)
 
 abbrev pub read_works : Went EquipmentView Happening → List DiskWork
-read_works (Goes step) = if takes_up step.next.node.own then ReadOldest ∷ [] else []
+read_works (Goes step) =
+    if takes_up step.next.node.own then ReadOldest (oldest_of step.next.node.own.ledger.sizes) ∷ [] else []
 read_works (Spent step) = []
 
 abbrev pub works_behind : Went EquipmentView Happening → List DiskWork

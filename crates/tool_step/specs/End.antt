@@ -1,15 +1,28 @@
 -- The equipment as an end of the line.
-use Rattle.std.specs.Prelude.{false, ◌+◌, [], ◌∷◌}
+use Rattle.std.specs.Prelude.{ℕ, false, ◌+◌, ◌*◌, [], ◌∷◌, length}
+use Rattle.spool_file.specs.File.{SpoolFile}
+use Rattle.spool_file.specs.Reads.{look_back}
 use Rattle.trace_log.specs.declared.commands.ToolCommand.{ToolCommand}
-use Rattle.message_end.specs.Ends.{Machine}
+use Rattle.message_end.specs.Ends.{Asked, Machine, asked_both}
 use Rattle.tool_step.specs.Disk.{asks, stops}
 use Rattle.spool_works.specs.DiskWorks.{reserve_asks}
 use Rattle.tool_step.specs.Equipment.{EquipmentView, act, restarts}
 use Rattle.tool_step.specs.Losses.{losses}
 
+-- what makes a new file of so many slots: a call of each and two, the first of which write its head and a gate each
+abbrev pub making : ℕ → Asked
+making slots = record { calls = slots + 2; bytes = slots + 4096 }
+
+-- what takes up such a file: a sync, a read of its front, two of each slot, and one more of each of the last ones
+abbrev pub taking_up : ℕ → Asked
+taking_up slots = record { calls = 2 * slots + look_back slots + 2; bytes = 0 }
+
+-- a start asks the size of each message then, and reserves system bytes
+abbrev pub starting : SpoolFile → Asked
+starting file = asked_both (record { calls = length file.list; bytes = 0 }) reserve_asks
+
 -- it puts into a full spool nothing that it must, so that no step of it ends early by what it fills; and at a start the
--- disk is asked before anything is noted: a call of each slot and two make or take up the file, and five reserve system
--- bytes
+-- disk is asked before anything is noted. (The file of a world is of version 2 from its making on.)
 abbrev pub machine : Machine EquipmentView ToolCommand
 machine = record {
   act = act;
@@ -21,5 +34,6 @@ machine = record {
   asks = asks;
   start_asks = reserve_asks;
   losses = losses;
-  start_calls = λ s. s.file.slots + 7;
+  first_use = λ s. asked_both (making s.file.slots) (starting s.file);
+  anew_use = λ s. asked_both (taking_up s.file.slots) (starting s.file);
 }

@@ -1,12 +1,12 @@
 -- The equipment with its spool: a step as a whole, its starts, and the equipment as an end.
-use Rattle.std.specs.Prelude.{ℕ, Bool, false, ◌+◌, ◌^◌, nat_lt, List, [], ◌∷◌, length, slice_get, Option, Some, None, if◌then◌else◌}
+use Rattle.std.specs.Prelude.{ℕ, Bool, false, ◌+◌, ◌^◌, nat_lt, List, [], ◌∷◌, map, slice_get, Option, Some, None, if◌then◌else◌}
 use Rattle.std.specs.Option.{option_map}
 use Rattle.gem_spool.specs.Works.{lists_after, standings_after}
 use Rattle.gem_states.specs.Comms.{comms_after}
 use Rattle.gem_states.specs.Control.{new_control}
 use Rattle.spool_file.specs.File.{SpoolFile}
-use Rattle.spool_file.specs.Slot.{Message}
-use Rattle.spool_slots.specs.Changes.{with_mark_moved}
+use Rattle.spool_file.specs.Slot.{Message, width}
+use Rattle.spool_slots.specs.Files.{upgraded, with_mark_moved}
 use Rattle.trace_log.specs.declared.commands.ToolCommand.{ToolCommand}
 use Rattle.trace_log.specs.Log.{Happening}
 use Rattle.trace_log.specs.Log.Happening.{EquipmentStarted}
@@ -140,24 +140,27 @@ new_own plan ledger = record {
   has_begun = false;
 }
 
--- over what a file stands for: the system bytes from its mark on are reserved
+-- over what a file stands for: it becomes one of version 2, and the system bytes from its mark on are reserved
 abbrev pub started_on : EquipmentPlan → SpoolFile → Step EquipmentView Happening
 started_on plan file = record {
   next = record {
     node = record {
-      own = new_own plan (new_ledger file.slots (first_in file) (length file.list));
+      own = new_own plan (new_ledger file.slots (first_in file) (map width file.list));
       core = new_end (end_plan plan) (numbers_from file.mark.value 4096);
     };
-    file = with_mark_moved file;
+    file = with_mark_moved (upgraded file);
   };
   notes = EquipmentStarted (found_in file.list) file.mark.value ∷ [];
   written = [];
 }
 
--- where there are none any more, nothing is noted, and the file stays as it is
+-- where there are none any more, nothing is noted, and the file is of version 2 alone
+abbrev pub unstarted : EquipmentPlan → SpoolFile → EquipmentView
+unstarted plan file = record (started_on plan file).next { file = upgraded file }
+
 abbrev pub starts : EquipmentPlan → SpoolFile → Went EquipmentView Happening
 starts plan file =
-    if is_marked_out file.mark.value then Spent (at_first (record (started_on plan file).next { file = file }))
+    if is_marked_out file.mark.value then Spent (at_first (unstarted plan file))
     else Goes (started_on plan file)
 
 -- a start anew finds what is kept

@@ -14,7 +14,7 @@ use Rattle.secs_items.specs.declared.item.Item.TheVariants as item
 use Rattle.spool_file.specs.File.{SpoolFile}
 use Rattle.spool_file.specs.Format.{empty_file}
 use Rattle.spool_file.specs.Slot as slot
-use Rattle.spool_slots.specs.Changes.{with_message}
+use Rattle.spool_slots.specs.Files.{with_message}
 use Rattle.trace_log.specs.declared.commands.ToolCommand.{ToolCommand}
 use Rattle.trace_log.specs.declared.names.Cause.TheVariants.{Confirmed, Overwritten}
 use Rattle.trace_log.specs.declared.names.CommsName.TheVariants as comms
@@ -315,7 +315,7 @@ lost_own =
       for_grant = record { system = 1; body = long_text } ∷ [];
       reports = record { system = 0; message = alarm } ∷ [];
       ledger = with_unload (Some (record { tried = Some (record { number = 4; waiting = None }); confirmed = 0 }))
-          (new_ledger 1 4 1);
+          (new_ledger 1 4 (1 ∷ []));
     }
 
 abbrev pub lost_core : EndView Kind
@@ -368,7 +368,7 @@ last_view =
     record {
       node = record {
         own = record s.node.own {
-          ledger = new_ledger 3 (2 ^ 63 - 1) 0;
+          ledger = new_ledger 3 (2 ^ 63 - 1) [];
           reports = record { system = 0; message = report 0 7 } ∷ record { system = 1; message = report 1 7 }
               ∷ record { system = 2; message = report 2 7 } ∷ [];
         };

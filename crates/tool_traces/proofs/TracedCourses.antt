@@ -33,7 +33,7 @@ use Rattle.tool_step.specs.declared.kind.Kind.{Kind}
 use Rattle.tool_step.specs.Own.{OwnView}
 use Rattle.tool_step.specs.Disk.{stops, works_of}
 use Rattle.tool_step.specs.End.{machine}
-use Rattle.tool_step.specs.Equipment.{EquipmentView, act, begun_step, ended_step, is_marked_out, needs_numbers, node_step, oldest_of, parts_done, reserved, restarts, settled, settled_step, settled_went, started_on, starts, went_with_file}
+use Rattle.tool_step.specs.Equipment.{unstarted, EquipmentView, act, begun_step, ended_step, is_marked_out, needs_numbers, node_step, oldest_of, parts_done, reserved, restarts, settled, settled_step, settled_went, started_on, starts, went_with_file}
 use Rattle.tool_step.specs.Losses.{losses}
 use Rattle.tool_step.specs.Step.{first_parts, last_parts}
 use Rattle.tool_step.proofs.LossCalls.{losses-counted}
@@ -359,7 +359,7 @@ module _ (plan : EquipmentPlan) where
     where
       went : Bool → FileWent
       went spent =
-          if spent then Spent (at_first (record (started_on other file).next { file = file }))
+          if spent then Spent (at_first (unstarted other file))
           else Goes (started_on other file)
 
       go : (spent : Bool) → IsCourseSo (steps_started (went spent) steps) (went_on (went spent) notes)
