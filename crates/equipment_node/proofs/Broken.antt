@@ -1,14 +1,19 @@
 -- That some works behind others break where they break together.
-use Rattle.std.proofs.Common.{◌≡◌, sym, subst, arith, ◌+◌, ◌-◌, ◌<◌, zero, suc, ℕ, List, ◌++◌, length, length-append, Some}
+use Rattle.std.proofs.Common.{◌≡◌, ◌∙◌, sym, ap, subst, arith, ◌+◌, ◌-◌, ◌<◌, zero, suc, ℕ, List, ◌++◌, length, Some}
+use Rattle.std.proofs.lemmas.List.{length-map, map-append}
+use Rattle.disk_base.specs.Calls.{DiskCall}
 use Rattle.disk_base.specs.Faults.{DiskHealth}
 use Rattle.disk_base.specs.Story.{Story}
 use Rattle.disk_base.specs.declared.disk.Disk as disk
 use Rattle.message_end.specs.Ends.{Loss, call_of}
 use Rattle.message_flow.specs.declared.step.Note.{Note}
-use Rattle.equipment_node.specs.Breaking.{BreaksAt, HasBrokenAt, Passes}
+use Rattle.equipment_node.specs.Breaking.{BreaksAt, HasBrokenAt, Passes, bytes_of, sizes_of}
 use Rattle.spool_works.specs.Breaking.{HasPassed, IsGoingDisk}
 use Rattle.tool_step.specs.Equipment.{EquipmentView}
-use Rattle.spool_works.proofs.CallPlaces.{call-before, call-behind, passed-both}
+use Rattle.spool_file.specs.Logs.{written_by}
+use Rattle.spool_works.proofs.BrokenPasses.{used-passes}
+use Rattle.spool_works.proofs.Called.{made-then}
+use Rattle.spool_works.proofs.CallPlaces.{call-before, call-behind}
 
 -- ---- losses behind others
 
@@ -37,22 +42,48 @@ broken-behind one two before now after notes passed is = record {
     place : now.stop_in ≡ before.stop_in - length one → length one + now.stop_in ≡ before.stop_in
     place near = let more = some now.stop_in is.is in omega (arith, near, more)
 
+-- ---- calls that write what losses say
+
+pub both-sized :
+    (made more : List DiskCall) (one two : List (Loss EquipmentView)) → bytes_of made ≡ sizes_of one
+    → bytes_of more ≡ sizes_of two → bytes_of (made ++ more) ≡ sizes_of (one ++ two)
+both-sized made more one two first second =
+    map-append (λ (call : DiskCall). length call.bytes) made more
+    ∙ ap (λ (sizes : List ℕ). sizes ++ bytes_of more) first
+    ∙ ap (λ (sizes : List ℕ). sizes_of one ++ sizes) second
+    ∙ sym (map-append (λ (loss : Loss EquipmentView). loss.bytes) one two)
+
+pub sized-many : (made : List DiskCall) (losses : List (Loss EquipmentView)) → bytes_of made ≡ sizes_of losses
+    → length made ≡ length losses
+sized-many made losses sized =
+    sym (length-map made (λ (call : DiskCall). length call.bytes)) ∙ ap length sized
+    ∙ length-map losses (λ (loss : Loss EquipmentView). loss.bytes)
+
 module _ {D : Type 0} (members : disk.Ghosts D) where
   pub passes-both :
       (a b c : D) (one two : List (Loss EquipmentView)) → Passes members a one b → Passes members b two c
       → Passes members a (one ++ two) c
-  passes-both a b c one two first second on =
-      let middle = first on in
-      subst (λ (n : ℕ). HasPassed (members.health a) (members.health c) n) (sym (length-append one two))
-      (passed-both (members.health a) (members.health b) (members.health c) (length one) (length two) middle
-      (second middle.on))
+  passes-both a b c one two first second = record {
+    made = first.made ++ second.made;
+    sized = both-sized first.made second.made one two first.sized second.sized;
+    are = made-then members a b c first.made second.made first.are second.are;
+  }
+
+  -- none of them is the planned one
+  pub passed-by :
+      (old new : D) (losses : List (Loss EquipmentView)) → Passes members old losses new
+      → IsGoingDisk (members.health old) → HasPassed (members.health old) (members.health new) (length losses)
+  passed-by old new losses is on =
+      subst (λ (n : ℕ). HasPassed (members.health old) (members.health new) n) (sized-many is.made losses is.sized)
+      (used-passes (members.health old) (members.health new) (length is.made) (written_by is.made) is.are.used on)
 
   -- the planned call is among the later ones
   pub breaks-behind :
       (a b c : D) (one two : List (Loss EquipmentView)) (notes : List Note) → IsGoingDisk (members.health a)
       → Passes members a one b → BreaksAt members b two c notes → BreaksAt members a (one ++ two) c notes
   breaks-behind a b c one two notes on first breaks t new images stopped =
-      broken-behind one two (members.health a) (members.health b) t notes (first on) (breaks t new images stopped)
+      broken-behind one two (members.health a) (members.health b) t notes (passed-by a b one first on)
+      (breaks t new images stopped)
 
   pub breaks-before :
       (a c : D) (one two : List (Loss EquipmentView)) (notes : List Note) → BreaksAt members a one c notes

@@ -121,11 +121,12 @@ split-change (what ∷ rest) = go (is_before_change what) (split-change rest)
 
 -- at the read, all is noted
 pub read-front :
-    (works : List Work) (before notes : List Happening)
-    → slice_get (fronts_of before (map Change works ++ ReadOldest ∷ []) notes) (length works) ≡ Some (before ++ notes)
-read-front [] before notes = refl
-read-front (one ∷ works) before notes =
-    read-front works (before ++ up_to_change notes) (behind_change notes)
+    (works : List Work) (slots : ℕ) (before notes : List Happening)
+    → slice_get (fronts_of before (map Change works ++ ReadOldest slots ∷ []) notes) (length works)
+    ≡ Some (before ++ notes)
+read-front [] slots before notes = refl
+read-front (one ∷ works) slots before notes =
+    read-front works slots (before ++ up_to_change notes) (behind_change notes)
     ∙ ap (λ (all : List Happening). Some all)
     (append_assoc before (up_to_change notes) (behind_change notes)
     ∙ ap (λ (all : List Happening). before ++ all) (split-change notes))

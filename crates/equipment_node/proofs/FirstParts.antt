@@ -1,9 +1,8 @@
 -- That the parts before the works come to what a step has begun.
-use Rattle.std.proofs.Common.{◌≡◌, refl, sym, ap, subst, ◌∙◌, ℕ, ◌+◌, List, [], Some}
+use Rattle.std.proofs.Common.{◌≡◌, refl, sym, ap, subst, ◌∙◌, ℕ, List, [], Some}
 use Rattle.std.specs.Prelude.{Err}
 use Rattle.disk_base.specs.declared.disk.Disk as disk
 use Rattle.gem_spool.specs.declared.spool.GemSpool.{GemSpool}
-use Rattle.gem_spool.specs.Standing.{count_of}
 use Rattle.message_flow.specs.declared.step.Note.{Note}
 use Rattle.message_flow.specs.declared.step.StepOut.{StepOut}
 use Rattle.trace_log.specs.declared.commands.ToolCommand.{ToolCommand}
@@ -18,10 +17,9 @@ use Rattle.message_end.specs.Laws.{read_as, went_as}
 use Rattle.message_end.specs.Parts.{Node, after_parts, on_the_way}
 use Rattle.message_end.proofs.Leaving.{read-parts}
 use Rattle.spool_slots.specs.Spool.{SpoolView}
-use Rattle.spool_ledger.specs.Ledger.{LedgerView, stood_count}
-use Rattle.spool_ledger.specs.declared.ledger.Stand.{Stand}
+use Rattle.spool_ledger.specs.Ledger.{LedgerView}
 use Rattle.tool_step.specs.declared.kind.Kind.{Kind}
-use Rattle.equipment_node.specs.Amid.{HasOpened, IsBegun, IsReady, IsSoundOwn, StopsAt, opened}
+use Rattle.equipment_node.specs.Amid.{HasOpened, IsBegun, IsCounted, IsReady, IsSoundOwn, StopsAt, opened}
 use Rattle.tool_core.specs.Calls.{IsReached, IsSpent}
 use Rattle.tool_step.specs.Equipment.{EquipmentView, begun_step, file_step, parts_done, went_with_file}
 use Rattle.tool_law.proofs.Lawful.{first-sound, parts-sound}
@@ -29,18 +27,13 @@ use Rattle.tool_law.proofs.MildCommands.{sound-self}
 use Rattle.tool_step.specs.Own.{OwnView, ToolPart}
 use Rattle.tool_law.specs.Sound.{IsSound}
 use Rattle.tool_step.specs.Step.{first_parts}
+use Rattle.equipment_node.proofs.Sizing.{counted-as}
 
 same-step : {S : Type 0} {a b : Step S Note} → Goes a ≡ Goes b → a ≡ b
 same-step same = cc
 
 same-spent : {S : Type 0} {a b : Step S Note} → Spent a ≡ Spent b → a ≡ b
 same-spent same = cc
-
-pub same-count :
-    (old new : LedgerView) → new.slots ≡ old.slots → new.stood ≡ old.stood → stood_count new ≡ stood_count old
-same-count old new slots stood =
-    ap (λ (n : ℕ). record { slots = n; next = new.stood.next; len = new.stood.len }) slots
-    ∙ ap (λ (st : Stand). record { slots = old.slots; next = st.next; len = st.len }) stood
 
 module _ (input : Input ToolCommand) (now : ℕ) (old mid : Node OwnView Kind) (out middle : StepOut) (empty : IsEmpty out)
     (sound : IsSoundOwn old.own)
@@ -74,15 +67,17 @@ module _ (input : Input ToolCommand) (now : ℕ) (old mid : Node OwnView Kind) (
         (first-sound sound.plan sound.fits old.own.ledger.slots old.own.ledger.stood input now) sound.sound
 
     pub first-ready :
-        {D : Type 0} (v : SpoolView D) → IsReady v old → code_went ≡ Goes (on_the_way mid middle) → IsReady v mid
-    first-ready v ready done =
+        {D : Type 0} (members : disk.Ghosts D) (v : SpoolView D) → IsReady members v old
+        → code_went ≡ Goes (on_the_way mid middle) → IsReady members v mid
+    first-ready members v ready done =
         let is =
         subst
         (λ (w : Went (Node OwnView Kind) Note).
         IsSound sound.plan old.own.ledger.slots old.own.ledger.stood (step_in w).next.own)
         done kept in
         record {
-          count = ready.count ∙ sym (same-count old.own.ledger mid.own.ledger is.ledger.slots_are is.ledger.stood_is);
+          counted =
+              counted-as members v old.own.ledger mid.own.ledger ready.counted is.ledger.slots_are is.ledger.stood_is;
           sound = record {
             plan = sound.plan;
             fits = sound.fits;
@@ -91,23 +86,22 @@ module _ (input : Input ToolCommand) (now : ℕ) (old mid : Node OwnView Kind) (
         }
 
     -- also where a number was wanting
-    pub spent-count :
-        {D : Type 0} (v : SpoolView D) → IsReady v old → (end : Stop)
+    pub spent-counted :
+        {D : Type 0} (members : disk.Ghosts D) (v : SpoolView D) → IsReady members v old → (end : Stop)
         → IsReached {A = Unit {0}} code_went mid middle (Err end) → end ≡ stop.NumbersSpent
-        → count_of v ≡ stood_count mid.own.ledger
-    spent-count v ready end reached same =
+        → IsCounted members v mid.own.ledger
+    spent-counted members v ready end reached same =
         go (subst (λ (e : Stop). IsReached {A = Unit {0}} code_went mid middle (Err e)) same reached)
       where
-        go : IsSpent code_went mid middle → count_of v ≡ stood_count mid.own.ledger
+        go : IsSpent code_went mid middle → IsCounted members v mid.own.ledger
         go spent =
             let is =
             subst
             (λ (w : Went (Node OwnView Kind) Note).
             IsSound sound.plan old.own.ledger.slots old.own.ledger.stood (step_in w).next.own)
             spent.is kept in
-            ready.count
-            ∙ sym (same-count old.own.ledger spent.own.ledger is.ledger.slots_are is.ledger.stood_is)
-            ∙ ap stood_count spent.ledger
+            subst (λ (ledger : LedgerView). IsCounted members v ledger) spent.ledger
+            (counted-as members v old.own.ledger spent.own.ledger ready.counted is.ledger.slots_are is.ledger.stood_is)
 
     -- a step of the definition that comes to what the code has at NumbersSpent
     record IsReadSpent : Type 0 where

@@ -15,20 +15,20 @@ take-short (suc n) (x ∷ xs) = let less = take-short n xs in omega (arith, less
 
 -- ---- what was read, as a report
 
-pub short-enough : (body : List ℕ) → length (take 4081 body) ≤ longest_text
-short-enough body = let less = take-short 4081 body in omega (arith, less)
+pub short-enough : (body : List ℕ) → length (take 1048576 body) ≤ longest_text
+short-enough body = let less = take-short 1048576 body in omega (arith, less)
 
 abbrev made : ℕ → ℕ → List ℕ → Spooled
 made stream function body = record { stream = stream; function = function; body = body }
 
 pub is-kept :
-    (stream function primary : ℕ) (body kept : List ℕ) → stream < 128 → primary ≡ function → length body ≤ 4081
-    → kept ≡ take 4081 body → made (stream % 128) primary kept ≡ made stream function body
+    (stream function primary : ℕ) (body kept : List ℕ) → stream < 128 → primary ≡ function → length body ≤ 1048576
+    → kept ≡ take 1048576 body → made (stream % 128) primary kept ≡ made stream function body
 is-kept stream function primary body kept less same short is =
     let low : stream % 128 ≡ stream = omega (arith, less) in
     ap (λ (n : ℕ). made n primary kept) low
     ∙ ap (λ (n : ℕ). made stream n kept) same
-    ∙ ap (λ (bytes : List ℕ). made stream function bytes) (is ∙ take_all 4081 body short)
+    ∙ ap (λ (bytes : List ℕ). made stream function bytes) (is ∙ take_all 1048576 body short)
 
 -- the first one of a file
 pub oldest-good :

@@ -1,11 +1,13 @@
 -- That each call hands back the device of its spool.
 use Rattle.std.proofs.Common.{◌≡◌, ◌≢◌, inl, inr, refl, sym, subst, ◌∙◌, ℕ, List, [], ◌∷◌, take, Option, Some, None}
 use Rattle.std.specs.Prelude.{Result, Ok, Err}
+use Rattle.disk_base.specs.Calls.{DiskCall}
 use Rattle.disk_base.specs.Faults.{Rose}
 use Rattle.disk_base.specs.SameDisk.{IsSameDisk}
 use Rattle.disk_base.specs.declared.disk.Disk as disk
 use Rattle.disk_base.specs.declared.disk.DiskAnswer.TheVariants.{Done, Failed}
 use Rattle.disk_base.proofs.Stretches.{same_then}
+use Rattle.gem_spool.specs.Oldest.{HasReadSlots}
 use Rattle.gem_spool.specs.Spool.{ReservesFrom}
 use Rattle.gem_spool.specs.Works.{Does, DoesAll, HasCarried, HasUndone}
 use Rattle.gem_spool.specs.declared.spool.GemSpool.{GemSpool}
@@ -14,7 +16,7 @@ use Rattle.gem_spool.specs.declared.works.Work.{Work}
 use Rattle.gem_spool.specs.declared.works.Work.TheVariants as work
 use Rattle.message_flow.specs.declared.step.Note.{Note}
 use Rattle.message_flow.specs.declared.step.StepOut.{StepOut}
-use Rattle.spool_slots.specs.Changes.{Clears, HasLooked, HasRecovered, Recovers, Reserves}
+use Rattle.spool_slots.specs.Changes.{Clears, HasRecovered, Recovers, Reserves}
 use Rattle.spool_slots.specs.Spool.{SpoolView}
 use Rattle.spool_slots.specs.declared.states.Recovering.{Recovering}
 use Rattle.spool_slots.specs.declared.states.Recovering.TheVariants as recovering
@@ -85,22 +87,22 @@ module _ {D : Type 0} (members : disk.Ghosts D) where
   -- ---- a work
 
   cleared-same : (v w : SpoolView D) → Clears members v (Ok w) → Same v.disk w.disk
-  cleared-same v w (inl (none, same, empty)) =
+  cleared-same v w (inl (none, at_first, same, empty)) =
       subst (λ (x : SpoolView D). Same v.disk x.disk) (sym same) (same-still v.disk)
   cleared-same v w (inr (moves, is)) = moves.1.0.same_disk
 
   work-same : (g h : GemSpool D) (one : Work) → Does members g one (Ok h) → Same g.spool.disk h.spool.disk
   work-same g h (work.Put stream function body) does =
-      let both = does.1 in same_then both.1.0.same_disk both.2.0.disk.same_disk
-  work-same g h (work.DropOldest slots) does = does.0.0.disk.same_disk
+      let both = does.1 in same_then both.1.0.made.same_disk both.2.0.disk.same_disk
+  work-same g h (work.DropOldest slots) does = does.0.0.made.same_disk
   work-same g h work.Purge does = cleared-same g.spool h.spool does.0
 
   work-failed-same :
       (g : GemSpool D) (spent : Spent D) (one : Work) → Does members g one (Err spent) → Same g.spool.disk spent.disk
-  work-failed-same g spent (work.Put stream function body) (put, inl staged) = staged.0.same_disk
+  work-failed-same g spent (work.Put stream function body) (put, inl staged) = staged.0.made.same_disk
   work-failed-same g spent (work.Put stream function body) (put, inr (u, staged, sealed)) =
-      same_then staged.0.same_disk sealed.0.disk.same_disk
-  work-failed-same g spent (work.DropOldest slots) does = does.0.disk.same_disk
+      same_then staged.0.made.same_disk sealed.0.disk.same_disk
+  work-failed-same g spent (work.DropOldest slots) does = does.0.made.same_disk
   work-failed-same g spent work.Purge does = does.1.0.same_disk
 
   works-same : (works : List Work) (g h : GemSpool D) → DoesAll members g works h → Same g.spool.disk h.spool.disk
@@ -109,7 +111,7 @@ module _ {D : Type 0} (members : disk.Ghosts D) where
 
   -- works
 
-  carried-back : (g h : GemSpool D) (works : List Work) → HasCarried members g works h
+  pub carried-back : (g h : GemSpool D) (works : List Work) → HasCarried members g works h
       → IsKept members g.spool.disk h.spool.disk
   carried-back g h works is =
       record { same_disk = works-same works g h is.done; count = is.goes_on.cause.same }
@@ -143,11 +145,13 @@ module _ {D : Type 0} (members : disk.Ghosts D) where
       → HasFailed members g.spool.disk spent.disk
   unreserved-back g spent done = record { same_disk = done.1.0.same_disk; rose = done.1.0.cause.rose }
 
-  pub looked-back : (v w : SpoolView D) (k : ℕ) → HasLooked members v w k Done → IsKept members v.disk w.disk
-  looked-back v w k looked = record { same_disk = looked.same_disk; count = looked.cause.same }
+  pub looked-back : (v w : SpoolView D) (looks : List DiskCall) → HasReadSlots members v w looks Done
+      → IsKept members v.disk w.disk
+  looked-back v w looks looked = record { same_disk = looked.made.same_disk; count = looked.made.calls.cause.same }
 
-  pub unlooked-back : (v w : SpoolView D) (k : ℕ) → HasLooked members v w k Failed → HasFailed members v.disk w.disk
-  unlooked-back v w k looked = record { same_disk = looked.same_disk; rose = looked.cause.rose }
+  pub unlooked-back : (v w : SpoolView D) (looks : List DiskCall) → HasReadSlots members v w looks Failed
+      → HasFailed members v.disk w.disk
+  unlooked-back v w looks looked = record { same_disk = looked.made.same_disk; rose = looked.made.calls.cause.rose }
 
   -- the last parts ask nothing
   pub last-back :
@@ -183,14 +187,16 @@ module _ {D : Type 0} (members : disk.Ghosts D) where
   untaken-back old (recovering.Failed spent) (inr is, by) = unread-back old spent.disk _ is
 
   pub seated-back :
-      (plan : EquipmentPlan) (g : GemSpool D) (base : ℕ) (out after : StepOut) (result : Result (Held D) (Starting D))
-      → StartsWith plan g base out after result → StartHandsBack members g.spool.disk result
-  seated-back plan g base out after (Ok h) starts =
+      (plan : EquipmentPlan) (g : GemSpool D) (sizes : List ℕ) (base : ℕ) (out after : StepOut)
+      (result : Result (Held D) (Starting D)) → StartsWith plan g sizes base out after result
+      → StartHandsBack members g.spool.disk result
+  seated-back plan g sizes base out after (Ok h) starts =
       subst (λ (x : GemSpool D). IsKept members g.spool.disk x.spool.disk) (sym starts.0) (kept-still g.spool.disk)
-  seated-back plan g base out after (Err (starting.NoMemory spent)) starts = kept-at g.spool.disk spent.disk starts
-  seated-back plan g base out after (Err (starting.NumbersSpent spent)) starts = absurd starts
-  seated-back plan g base out after (Err (starting.DiskFailed spent)) starts = absurd starts
-  seated-back plan g base out after (Err (starting.NotSpool raw break)) starts = absurd starts
+  seated-back plan g sizes base out after (Err (starting.NoMemory spent)) starts =
+      kept-at g.spool.disk spent.disk starts
+  seated-back plan g sizes base out after (Err (starting.NumbersSpent spent)) starts = absurd starts
+  seated-back plan g sizes base out after (Err (starting.DiskFailed spent)) starts = absurd starts
+  seated-back plan g sizes base out after (Err (starting.NotSpool raw break)) starts = absurd starts
 
   pub start-then : (a b : D) (result : Result (Held D) (Starting D)) → IsKept members a b
       → StartHandsBack members b result → StartHandsBack members a result

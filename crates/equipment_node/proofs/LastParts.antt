@@ -24,9 +24,9 @@ use Rattle.message_end.specs.Core.Went.{Goes, Spent}
 use Rattle.message_end.specs.Laws.{read_as, went_as}
 use Rattle.message_end.specs.Parts.{Node, after_parts, after_turn, closes, on_the_way}
 use Rattle.message_end.proofs.Leaving.{read-parts}
-use Rattle.spool_ledger.specs.Ledger.{LedgerView, carried_out, next_of}
+use Rattle.spool_ledger.specs.Ledger.{LedgerView, Numbered, carried_out}
+use Rattle.spool_ledger.specs.Sizes.{oldest_of as oldest_size}
 use Rattle.spool_ledger.specs.Unloading.{next_number}
-use Rattle.spool_ledger.specs.declared.ledger.Stand.{Stand}
 use Rattle.equipment_tables.specs.Tables.{most_transmitted}
 use Rattle.spool_works.specs.declared.ended.Ended.{Ended}
 use Rattle.spool_works.specs.declared.ended.Ended.TheVariants as ended
@@ -60,12 +60,12 @@ still-standing s node rested =
     ap (λ (n : ℕ). record { next = n + sum s.node.own.ledger.sizes; file = s.file }) (sym rested.first)
     ∙ ap (λ (sizes : List ℕ). record { next = node.own.ledger.first + sum sizes; file = s.file }) (sym rested.sizes)
 
-abbrev stand_of : ℕ → ℕ → Stand
-stand_of next len = record { next = next; len = len }
+abbrev listed : ℕ → List ℕ → Numbered
+listed first sizes = record { first = first; sizes = sizes }
 
-owes-none : (v : LedgerView) → stand_of (next_of v) (length v.sizes) ≡ v.stood → [] ≡ v.works → carried_out v ≡ v
+owes-none : (v : LedgerView) → listed v.first v.sizes ≡ v.stood → [] ≡ v.works → carried_out v ≡ v
 owes-none v stood works =
-    ap (λ (st : Stand). record v { stood = st; works = [] }) stood
+    ap (λ (list : Numbered). record v { stood = list; works = [] }) stood
     ∙ ap (λ (all : List Work). record v { stood = v.stood; works = all }) works
 
 module _ {D : Type 0} (members : disk.Ghosts D) where
@@ -76,12 +76,13 @@ module _ {D : Type 0} (members : disk.Ghosts D) where
     stands = subst (λ (st : Standing). Stands members v st) (still-standing s node rested) clear.stands;
     owes =
         owes-none node.own.ledger
-        (ap (λ (n : ℕ). stand_of (n + sum node.own.ledger.sizes) (length node.own.ledger.sizes)) rested.first
-        ∙ ap (λ (sizes : List ℕ). stand_of (s.node.own.ledger.first + sum sizes) (length sizes)) rested.sizes
+        (ap (λ (n : ℕ). listed n node.own.ledger.sizes) rested.first
+        ∙ ap (λ (sizes : List ℕ). listed s.node.own.ledger.first sizes) rested.sizes
         ∙ ap (λ (l : LedgerView). l.stood) clear.owes ∙ sym rested.stood)
         (ap (λ (l : LedgerView). l.works) clear.owes ∙ sym rested.works);
-    len = clear.len ∙ ap (λ (sizes : List ℕ). length sizes) (sym rested.sizes);
+    sizes_are = clear.sizes_are ∙ sym rested.sizes;
     slots_are = clear.slots_are ∙ sym rested.slots;
+    version_is = clear.version_is;
   }
 
   -- ---- the parts
@@ -206,8 +207,8 @@ module _ {D : Type 0} (members : disk.Ghosts D) where
   module _ (t : Step EquipmentView Happening) (number : ℕ) (v w : SpoolView D) (kept : Kept) (report : Spooled)
       (clear : IsClear members v t.next) (told : IsTold (members.told v.disk))
       (some : next_number (most_transmitted t.next.node.own.tables) t.next.node.own.ledger ≡ Some number)
-      (reads : ReadsOldest members v w (Ok kept))
-      (is : kept.stream < 128 → kept.function % 2 ≡ 1 → length kept.body ≤ 4081
+      (slots : ℕ) (reads : ReadsOldest members v w slots (Ok kept))
+      (is : kept.stream < 128 → kept.function % 2 ≡ 1 → length kept.body ≤ 1048576
       → report ≡ record { stream = kept.stream; function = kept.function; body = kept.body })
     where
       first : slice_get (file_in told.0.now.bytes).list 0 ≡ Some (message_in v.first kept)
@@ -250,8 +251,9 @@ module _ {D : Type 0} (members : disk.Ghosts D) where
     clear = record {
       stands = stands;
       owes = at.clear.owes;
-      len = at.clear.len;
+      sizes_are = at.clear.sizes_are;
       slots_are = at.clear.slots_are;
+      version_is = at.clear.version_is;
     };
     told = (at.told.0, same ∙ at.told.1);
     notes = at.notes;
@@ -266,6 +268,14 @@ asked-is old new t same own core =
     ap (λ (o : OwnView). record { own = o; core = new.core }) own
     ∙ ap (λ (e : EndView Kind). record { own = (asked_node old).own; core = e }) core
     ∙ ap asked_node same
+
+-- which leaves the oldest message as it is
+pub asked-oldest :
+    (old new : Node OwnView Kind) (t : Step EquipmentView Happening) → old ≡ t.next.node
+    → new.own ≡ (asked_node old).own → new.core ≡ old.core
+    → oldest_size new.own.ledger.sizes ≡ oldest_size t.next.node.own.ledger.sizes
+asked-oldest old new t same own core =
+    ap (λ (n : Node OwnView Kind). oldest_size n.own.ledger.sizes) (asked-is old new t same own core)
 
 pub number-is :
     (old : Node OwnView Kind) (t : Step EquipmentView Happening) → old ≡ t.next.node → (number : Option ℕ)

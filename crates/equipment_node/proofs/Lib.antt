@@ -9,12 +9,17 @@ pub mod FoundBytes
 pub mod FromDisk
 pub mod HandingBack
 pub mod LastParts
+pub mod MadeReady
 pub mod Making
+pub mod Missed
 pub mod OnDisk
 pub mod Opened
 pub mod OverDisk
+pub mod Reaching
+pub mod ReadSizes
 pub mod Readying
 pub mod Seated
+pub mod Sizing
 pub mod SpentMoves
 pub mod Standings
 pub mod StartCalled

@@ -6,10 +6,11 @@ use Rattle.disk_base.specs.declared.disk.Disk as disk
 use Rattle.disk_base.proofs.Moments.{only_now}
 use Rattle.gem_spool.specs.declared.count.Count.{Count}
 use Rattle.gem_spool.specs.declared.works.Work.{Work}
-use Rattle.gem_spool.specs.Standing.{Standing, Stands, count_in, count_of}
+use Rattle.gem_spool.specs.Standing.{Standing, Stands, count_in}
 use Rattle.gem_spool.specs.Works.{counts_after, reserved as marked, standing_after, standings_after}
 use Rattle.gem_spool.proofs.Doing.{counts_keep}
 use Rattle.spool_file.specs.File.{SpoolFile, StandsFor}
+use Rattle.spool_file.specs.Slot.{Message, width}
 use Rattle.spool_slots.specs.Spool.{SpoolView}
 use Rattle.spool_slots.specs.declared.states.Spent.{Spent as Device}
 use Rattle.trace_log.specs.Log.{Happening}
@@ -17,13 +18,15 @@ use Rattle.message_end.specs.Core.{Went, at_first}
 use Rattle.message_end.specs.Core.Went.{Goes, Spent}
 use Rattle.message_end.specs.Own.{Has}
 use Rattle.spool_ledger.specs.Ledger.{LedgerView, carried_out, next_of, stood_count}
-use Rattle.equipment_node.specs.Amid.{Keeps, opened}
+use Rattle.spool_ledger.specs.Sizes.{all_sizes_after}
+use Rattle.equipment_node.specs.Amid.{Keeps, WorksFit, opened}
 use Rattle.spool_works.specs.DiskWorks.{DiskWork, fronts_of, standings_behind}
 use Rattle.tool_step.specs.Disk.{standing_in}
 use Rattle.spool_works.specs.DiskWorks.DiskWork.{Change, Reserve}
 use Rattle.tool_step.specs.Equipment.{EquipmentView, is_marked_out, needs_numbers, reserved, reserving, settled_file}
 use Rattle.tool_step.specs.Left as left
-use Rattle.equipment_node.specs.Stepping.{IsClear}
+use Rattle.tool_step.proofs.StepFiles.{lists-behind}
+use Rattle.equipment_node.proofs.Sizing.{all-widths-after, sized-of}
 
 -- ---- lists
 
@@ -70,25 +73,19 @@ module _ {D : Type 0} (members : disk.Ghosts D) where
   kept-of v st spent same stands t told =
       held v st stands t (ap (λ (d : D). members.told d) (sym same) ∙ told)
 
-  -- the numbers of the spool are those of the ledger
-  pub counted : (v : SpoolView D) (s : EquipmentView) → IsClear members v s
-      → count_of v ≡ stood_count s.node.own.ledger
-  counted v s clear =
-      clear.stands.count
-      ∙ ap (λ (n : ℕ). record { slots = n; next = next_of s.node.own.ledger; len = length s.file.list }) clear.slots_are
-      ∙ ap (λ (n : ℕ). record { slots = s.node.own.ledger.slots; next = next_of s.node.own.ledger; len = n }) clear.len
-      ∙ ap stood_count clear.owes
-
 pub take-all : {X : Type 0} (xs : List X) → take (length xs) xs ≡ xs
 take-all {X} [] = refl
 take-all {X} (x ∷ xs) = ap (λ (rest : List X). x ∷ rest) (take-all xs)
 
 -- behind the works the disk has the file that was decided
 module _ (st : Standing) (ledger : LedgerView) (same : count_in st ≡ stood_count ledger)
-    (come : counts_after (stood_count ledger) ledger.works ≡ stood_count (carried_out ledger))
+    (sizes : map width st.file.list ≡ ledger.stood.sizes) (fit : WorksFit ledger)
   where
     counts : count_in (standings_after st ledger.works) ≡ stood_count (carried_out ledger)
-    counts = sym (counts_keep st ledger.works) ∙ ap (λ (c : Count). counts_after c ledger.works) same ∙ come
+    counts =
+        sym (counts_keep st ledger.works (sized-of st ledger sizes fit))
+        ∙ ap (λ (c : Count). counts_after c ledger.works) same
+        ∙ fit.come_to
 
     pub settled-standing :
         standings_after st ledger.works ≡ record { next = next_of ledger; file = settled_file ledger st.file }
@@ -100,9 +97,13 @@ module _ (st : Standing) (ledger : LedgerView) (same : count_in st ≡ stood_cou
         made : ℕ → SpoolFile → Standing
         made next file = record { next = next; file = file }
 
-    pub settled-long : length (settled_file ledger st.file).list ≡ length ledger.sizes
-    settled-long =
-        ap (λ (x : Standing). length x.file.list) (sym settled-standing) ∙ ap (λ (c : Count). c.len) counts
+    pub settled-sizes : map width (settled_file ledger st.file).list ≡ ledger.sizes
+    settled-sizes =
+        ap (λ (x : Standing). map width x.file.list) (sym settled-standing)
+        ∙ ap (λ (list : List Message). map width list) (lists-behind st ledger.works)
+        ∙ all-widths-after st.next st.file.list ledger.works
+        ∙ ap (λ (ns : List ℕ). all_sizes_after ns ledger.works) sizes
+        ∙ fit.leave
 
 -- ---- places among all works
 

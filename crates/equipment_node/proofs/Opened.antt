@@ -100,7 +100,13 @@ module _ {D : Type 0} (members : disk.Ghosts D) (s : EquipmentView) where
         node_is = node_is ∙ ap (λ (x : EquipmentView). x.node) (sym same);
         clear =
             subst (λ (x : EquipmentView). IsClear members h.spool x) (sym same)
-            (record { stands = stands; owes = clear.owes; len = clear.len; slots_are = clear.slots_are });
+            (record {
+              stands = stands;
+              owes = clear.owes;
+              sizes_are = clear.sizes_are;
+              slots_are = clear.slots_are;
+              version_is = clear.version_is;
+            });
         told = (through.0, through.1);
       }
 

@@ -8,10 +8,11 @@ use Rattle.disk_base.specs.declared.disk.Disk as disk
 use Rattle.gem_spool.specs.declared.count.Count.{Count}
 use Rattle.gem_spool.specs.declared.spool.GemSpool.{GemSpool}
 use Rattle.gem_spool.specs.declared.works.Work.{Work}
-use Rattle.gem_spool.specs.Standing.{Standing, Stands, count_of}
-use Rattle.gem_spool.specs.Works.{HasCarried, counts_after, standings_after}
+use Rattle.gem_spool.specs.Standing.{Standing, Stands, count_in}
+use Rattle.gem_spool.specs.Works.{HasCarried, standings_after}
 use Rattle.message_flow.specs.declared.step.StepOut.{StepOut}
 use Rattle.spool_file.specs.File.{SpoolFile, StandsFor}
+use Rattle.spool_file.specs.Slot.{width}
 use Rattle.spool_slots.specs.declared.states.Spent.{Spent as Device}
 use Rattle.trace_log.specs.declared.commands.ToolCommand.{ToolCommand}
 use Rattle.trace_log.specs.Log.{Happening}
@@ -22,13 +23,14 @@ use Rattle.message_end.specs.Parts.{Node, after_parts}
 use Rattle.message_end.proofs.Growing.{front-both, front-same, parts-grow}
 use Rattle.spool_ledger.specs.Ledger.{LedgerView, carried_out, next_of, stood_count}
 use Rattle.equipment_tables.specs.Tables.{most_transmitted}
+use Rattle.spool_ledger.specs.Sizes.{oldest_of as oldest_size}
 use Rattle.spool_ledger.specs.Unloading.{number_next}
 use Rattle.spool_ledger.specs.declared.unload.Unload.{Unload}
 use Rattle.spool_works.specs.declared.ended.Ended.{Ended}
 use Rattle.spool_works.specs.declared.ended.Ended.TheVariants as ended
 use Rattle.tool_step.specs.declared.kind.Kind.{Kind}
-use Rattle.equipment_node.specs.Amid.{Acts, Carries, EndsSo, HasCut, IsAt, IsBegun, IsBegunSpent, Opens, opened}
-use Rattle.equipment_node.specs.Amid.{settled_node}
+use Rattle.equipment_node.specs.Amid.{Acts, Carries, EndsSo, HasCut, IsAt, IsBegun, IsBegunSpent, IsCounted, Opens}
+use Rattle.equipment_node.specs.Amid.{WorksFit, opened, settled_node}
 use Rattle.equipment_node.specs.Cut.{cut_at, noted_to}
 use Rattle.spool_works.specs.DiskWorks.{DiskWork, IsAmidWork, fronts_of, standings_behind}
 use Rattle.tool_step.specs.Disk.{owed_in, read_works, reserve_works, standing_in, stops, takes_up, works_behind}
@@ -36,15 +38,16 @@ use Rattle.tool_step.specs.Disk.{works_of}
 use Rattle.spool_works.specs.DiskWorks.DiskWork.{Change, ReadOldest, Reserve}
 use Rattle.tool_step.specs.Equipment.{EquipmentView, act, begun_step, ended_step, node_step, oldest_of, parts_done}
 use Rattle.tool_step.specs.Equipment.{reserving, settled, settled_file, settled_step, settled_went, went_with_file}
-use Rattle.tool_step.proofs.StepFiles.{settled-slots}
+use Rattle.tool_step.proofs.StepFiles.{settled-slots, settled-version}
 use Rattle.tool_step.specs.Left as left
 use Rattle.tool_step.specs.Own.{OwnView, ToolPart}
 use Rattle.tool_step.specs.Step.{first_parts, last_parts}
 use Rattle.equipment_node.specs.Stepping.{IsClear, IsTold}
 use Rattle.equipment_node.proofs.Cutting.{change-front, cut-noted, noted-front, read-front}
 use Rattle.equipment_node.proofs.OnDisk.{get-has, get-front, get-behind, get-changed, map-long, kept-of, take-all}
-use Rattle.equipment_node.proofs.OnDisk.{settled-standing, settled-long, place_of, reserves, is_reserving, placed}
+use Rattle.equipment_node.proofs.OnDisk.{settled-standing, settled-sizes, place_of, reserves, is_reserving, placed}
 use Rattle.equipment_node.proofs.OnDisk.{placed-front, standings-change, placed-standing, opened-standing}
+use Rattle.equipment_node.proofs.Sizing.{sized-of, sizes-stand}
 
 -- ---- what was begun, and what comes of it
 
@@ -223,18 +226,26 @@ module _ {D : Type 0} (members : disk.Ghosts D) (s : EquipmentView) (input : Inp
 
       -- the works are done
       module _ (g h : GemSpool D) (clear : IsClear members g.spool (opened s))
-          (count : count_of g.spool ≡ stood_count (step_in begun).next.node.own.ledger)
-          (come : counts_after (stood_count (step_in begun).next.node.own.ledger) (owed_in begun)
-          ≡ stood_count (carried_out (step_in begun).next.node.own.ledger))
+          (told : IsTold (members.told g.spool.disk))
+          (counted : IsCounted members g.spool (step_in begun).next.node.own.ledger)
+          (fit : WorksFit (step_in begun).next.node.own.ledger)
           (file : (step_in begun).next.file ≡ (opened s).file)
         where
           abbrev ledger : LedgerView
           ledger = (step_in begun).next.node.own.ledger
 
+          count : count_in (standing_in (opened s)) ≡ stood_count ledger
+          count = sym clear.stands.count ∙ counted.count
+
+          sizes : map width (opened s).file.list ≡ ledger.stood.sizes
+          sizes =
+              sizes-stand members g.spool (standing_in (opened s)) ledger.stood.sizes clear.stands counted.sizes told.0
+              told.1
+
           pub done-standing :
               standings_after (standing_in (opened s)) (owed_in begun) ≡ standing_in (settled (step_in begun).next)
           done-standing =
-              settled-standing (standing_in (opened s)) ledger (sym clear.stands.count ∙ count) come
+              settled-standing (standing_in (opened s)) ledger count sizes fit
               ∙ ap (λ (f : SpoolFile). record { next = next_of ledger; file = settled_file ledger f }) (sym file)
 
           pub done-clear :
@@ -242,20 +253,24 @@ module _ {D : Type 0} (members : disk.Ghosts D) (s : EquipmentView) (input : Inp
           done-clear carried = record {
             stands =
                 subst (λ (st : Standing). Stands members h.spool st) done-standing
-                (carried.stands (standing_in (opened s)) clear.stands);
+                (carried.stands (standing_in (opened s)) clear.stands
+                (sized-of (standing_in (opened s)) ledger sizes fit));
             owes = refl;
-            len =
-                ap (λ (f : SpoolFile). length (settled_file ledger f).list) file
-                ∙ settled-long (standing_in (opened s)) ledger (sym clear.stands.count ∙ count) come;
+            sizes_are =
+                ap (λ (f : SpoolFile). map width (settled_file ledger f).list) file
+                ∙ settled-sizes (standing_in (opened s)) ledger count sizes fit;
             slots_are =
                 settled-slots ledger (step_in begun).next.file
                 ∙ ap (λ (f : SpoolFile). f.slots) file
-                ∙ ap (λ (c : Count). c.slots) (sym clear.stands.count ∙ count);
+                ∙ ap (λ (c : Count). c.slots) count;
+            version_is =
+                settled-version ledger (step_in begun).next.file
+                ∙ ap (λ (f : SpoolFile). f.version) file
+                ∙ clear.version_is;
           }
 
-          pub still-told :
-              HasCarried members g (owed_in begun) h → IsTold (members.told g.spool.disk) → IsTold (members.told h.spool.disk)
-          still-told carried told =
+          pub still-told : HasCarried members g (owed_in begun) h → IsTold (members.told h.spool.disk)
+          still-told carried =
               let through = carried.goes_on.images (standing_in (opened s)) clear.stands told.0 told.1 in
               (through.0, through.1)
 
@@ -263,20 +278,21 @@ module _ {D : Type 0} (members : disk.Ghosts D) (s : EquipmentView) (input : Inp
   pub spent-before :
       (went : reserving s ≡ Goes (at_first (opened s))) (g h : GemSpool D) (node new : Node OwnView Kind)
       (middle out : StepOut) (spent : Device D) (begun : IsBegunSpent s input now node middle)
-      → IsClear members g.spool (opened s) → count_of g.spool ≡ stood_count node.own.ledger
-      → counts_after (stood_count node.own.ledger) node.own.ledger.works ≡ stood_count (carried_out node.own.ledger)
+      → IsClear members g.spool (opened s) → IsTold (members.told g.spool.disk)
+      → IsCounted members g.spool node.own.ledger → WorksFit node.own.ledger
       → HasCarried members g node.own.ledger.works h → spent.disk ≡ h.spool.disk → out.notes ≡ middle.notes
       → Acts members s input now new out (Err (ended.NumbersSpent spent))
-  spent-before went g h node new middle out spent begun clear count come carried same out_same after notes quiet = (
-    record { step = settled_step begun.step; is = act-is; notes = notes ∙ out_same ∙ begun.notes; quiet = quiet },
-    λ t told. subst (λ (w : Went EquipmentView Happening). left.Holds (standing_in (step_in w).next) t.now) (sym act-is)
-        (kept-of members h.spool (standing_in (settled begun.step.next)) spent same
-        (done-clear went (Spent begun.step) begun.is g h clear
-        (count ∙ ap stood_count (sym begun.ledger))
-        (subst (λ (l : LedgerView). counts_after (stood_count l) l.works ≡ stood_count (carried_out l)) (sym begun.ledger) come)
-        begun.file
-        (subst (λ (l : LedgerView). HasCarried members g l.works h) (sym begun.ledger) carried)).stands t told),
-  )
+  spent-before went g h node new middle out spent begun clear told counted fit carried same out_same after
+      notes quiet = (
+        record { step = settled_step begun.step; is = act-is; notes = notes ∙ out_same ∙ begun.notes; quiet = quiet },
+        λ t now_told. subst (λ (w : Went EquipmentView Happening). left.Holds (standing_in (step_in w).next) t.now)
+            (sym act-is)
+            (kept-of members h.spool (standing_in (settled begun.step.next)) spent same
+            (done-clear went (Spent begun.step) begun.is g h clear told
+            (subst (λ (l : LedgerView). IsCounted members g.spool l) (sym begun.ledger) counted)
+            (subst WorksFit (sym begun.ledger) fit) begun.file
+            (subst (λ (l : LedgerView). HasCarried members g l.works h) (sym begun.ledger) carried)).stands t now_told),
+      )
     where
       act-is : act s input now ≡ Spent (settled_step begun.step)
       act-is =
@@ -299,10 +315,10 @@ module _ {D : Type 0} (members : disk.Ghosts D) (s : EquipmentView) (input : Inp
   pub ends-acts :
       (went : reserving s ≡ Goes (at_first (opened s))) (g : GemSpool D) (node new : Node OwnView Kind)
       (middle out : StepOut) (begun : IsBegun s input now node middle) (result : Result (GemSpool D) (Ended D))
-      → IsClear members g.spool (opened s) → count_of g.spool ≡ stood_count node.own.ledger
-      → counts_after (stood_count node.own.ledger) node.own.ledger.works ≡ stood_count (carried_out node.own.ledger)
+      → IsClear members g.spool (opened s) → IsTold (members.told g.spool.disk)
+      → IsCounted members g.spool node.own.ledger → WorksFit node.own.ledger
       → EndsSo members now (settled_step begun.step) new out result → Acts members s input now new out result
-  ends-acts went g node new middle out begun result clear count come ends = go result ends
+  ends-acts went g node new middle out begun result clear told counted fit ends = go result ends
     where
       act-is : act s input now ≡ ended_step now (settled_step begun.step)
       act-is =
@@ -314,11 +330,13 @@ module _ {D : Type 0} (members : disk.Ghosts D) (s : EquipmentView) (input : Inp
       works : List Work
       works = begun.step.next.node.own.ledger.works
 
+      oldest : ℕ
+      oldest = oldest_size begun.step.next.node.own.ledger.sizes
+
       standing : standings_after (standing_in (opened s)) works ≡ standing_in (settled begun.step.next)
       standing =
-          done-standing went (Goes begun.step) begun.is g g clear
-          (count ∙ ap stood_count ledger-is)
-          (subst (λ (l : LedgerView). counts_after (stood_count l) l.works ≡ stood_count (carried_out l)) ledger-is come)
+          done-standing went (Goes begun.step) begun.is g g clear told
+          (subst (λ (l : LedgerView). IsCounted members g.spool l) ledger-is counted) (subst WorksFit ledger-is fit)
           begun.file
 
       at-end :
@@ -346,7 +364,7 @@ module _ {D : Type 0} (members : disk.Ghosts D) (s : EquipmentView) (input : Inp
         },
         λ t told. record {
           place = place_of (is_reserving s) (length works);
-          work = ReadOldest;
+          work = ReadOldest oldest;
           is =
               ap (λ (all : List DiskWork). slice_get all (place_of (is_reserving s) (length works)))
               (works-are went (Goes begun.step) begun.is)
@@ -365,9 +383,9 @@ module _ {D : Type 0} (members : disk.Ghosts D) (s : EquipmentView) (input : Inp
         },
       )
         where
-          reads : read_works (Goes begun.step) ≡ ReadOldest ∷ []
+          reads : read_works (Goes begun.step) ≡ ReadOldest oldest ∷ []
           reads =
-              ap (λ (b : Bool). if b then ReadOldest ∷ [] else []) (sym (takes-settled begun.step.next) ∙ ends.0)
+              ap (λ (b : Bool). if b then ReadOldest oldest ∷ [] else []) (sym (takes-settled begun.step.next) ∙ ends.0)
 
           front-is : slice_get (stops s input now) (place_of (is_reserving s) (length works)) ≡ Some begun.step.notes
           front-is =
@@ -376,7 +394,7 @@ module _ {D : Type 0} (members : disk.Ghosts D) (s : EquipmentView) (input : Inp
               ∙ placed-front (is_reserving s) (map Change works ++ read_works (Goes begun.step)) begun.step.notes (length works)
               ∙ ap (λ (all : List DiskWork).
               slice_get (fronts_of [] (map Change works ++ all) begun.step.notes) (length works)) reads
-              ∙ read-front works [] begun.step.notes
+              ∙ read-front works oldest [] begun.step.notes
       go (Err (ended.NoMemory spent)) ends = λ after notes quiet. (
         quiet,
         λ t told. record {
@@ -390,18 +408,13 @@ module _ {D : Type 0} (members : disk.Ghosts D) (s : EquipmentView) (input : Inp
       (went : reserving s ≡ Goes (at_first (opened s))) (g h : GemSpool D) (node next : Node OwnView Kind)
       (middle out : StepOut) (begun : IsBegun s input now node middle)
       → IsClear members g.spool (opened s) → IsTold (members.told g.spool.disk)
-      → count_of g.spool ≡ stood_count node.own.ledger
-      → counts_after (stood_count node.own.ledger) node.own.ledger.works ≡ stood_count (carried_out node.own.ledger)
+      → IsCounted members g.spool node.own.ledger → WorksFit node.own.ledger
       → HasCarried members g node.own.ledger.works h → next ≡ settled_node node → out ≡ middle
       → IsAt members (settled_step begun.step) next out h
-  at-settled went g h node next middle out begun clear told count come carried next_is same = record {
+  at-settled went g h node next middle out begun clear told counted fit carried next_is same = record {
     node_is = next_is ∙ ap settled_node (sym begun.node_is);
-    clear =
-        done-clear went (Goes begun.step) begun.is g h clear (count ∙ ap stood_count ledger-is) come-is begun.file
-        carried-is;
-    told =
-        still-told went (Goes begun.step) begun.is g h clear (count ∙ ap stood_count ledger-is) come-is begun.file
-        carried-is told;
+    clear = done-clear went (Goes begun.step) begun.is g h clear told counted-is fit-is begun.file carried-is;
+    told = still-told went (Goes begun.step) begun.is g h clear told counted-is fit-is begun.file carried-is;
     notes = ap (λ (o : StepOut). o.notes) same ∙ begun.notes;
     written = ap (λ (o : StepOut). o.line.items) same ∙ begun.written;
   }
@@ -409,11 +422,11 @@ module _ {D : Type 0} (members : disk.Ghosts D) (s : EquipmentView) (input : Inp
       ledger-is : node.own.ledger ≡ begun.step.next.node.own.ledger
       ledger-is = ap (λ (n : Node OwnView Kind). n.own.ledger) (sym begun.node_is)
 
-      come-is :
-          counts_after (stood_count begun.step.next.node.own.ledger) begun.step.next.node.own.ledger.works
-          ≡ stood_count (carried_out begun.step.next.node.own.ledger)
-      come-is =
-          subst (λ (l : LedgerView). counts_after (stood_count l) l.works ≡ stood_count (carried_out l)) ledger-is come
+      counted-is : IsCounted members g.spool begun.step.next.node.own.ledger
+      counted-is = subst (λ (l : LedgerView). IsCounted members g.spool l) ledger-is counted
+
+      fit-is : WorksFit begun.step.next.node.own.ledger
+      fit-is = subst WorksFit ledger-is fit
 
       carried-is : HasCarried members g begun.step.next.node.own.ledger.works h
       carried-is = subst (λ (l : LedgerView). HasCarried members g l.works h) ledger-is carried

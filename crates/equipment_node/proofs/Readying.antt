@@ -1,14 +1,18 @@
 -- That the spool in hand stays ready for the next step, whatever its disk tells.
-use Rattle.std.proofs.Common.{◌≡◌, sym, ap, subst, ◌∙◌, ℕ, [], ◌∷◌, Option, Some, None}
+use Rattle.std.proofs.Common.{◌≡◌, refl, sym, ap, subst, ◌∙◌, ℕ, List, [], ◌∷◌, Option, Some, None}
 use Rattle.std.specs.Prelude.{IfOk, Result, Ok, Err}
+use Rattle.disk_base.specs.Calls.{DiskCall}
 use Rattle.disk_base.specs.declared.disk.Disk as disk
-use Rattle.gem_spool.specs.declared.count.Count.{Count}
+use Rattle.disk_base.specs.declared.disk.DiskAnswer.{DiskAnswer}
 use Rattle.gem_spool.specs.declared.spool.GemSpool.{GemSpool}
+use Rattle.gem_spool.specs.Oldest.{HasReadSlots}
+use Rattle.gem_spool.specs.Spool.{HasList, ReservesFrom}
 use Rattle.gem_spool.specs.Standing.{count_of}
-use Rattle.gem_spool.specs.Works.{counts_after}
+use Rattle.gem_spool.specs.Works.{HasCarried}
 use Rattle.message_flow.specs.declared.step.Note.{Note}
 use Rattle.message_flow.specs.declared.step.StepOut.{StepOut}
-use Rattle.spool_slots.specs.Spool.{SpoolView, in_hand, known_of}
+use Rattle.spool_file.specs.Slot.{Message}
+use Rattle.spool_slots.specs.Spool.{SpoolView}
 use Rattle.trace_log.specs.Names.{Spooled}
 use Rattle.trace_log.specs.Text.{printed_note}
 use Rattle.message_end.specs.Core.{EndView, Went, step_in}
@@ -16,11 +20,12 @@ use Rattle.message_end.specs.Parts.{Node, closes, on_the_way}
 use Rattle.equipment_tables.specs.declared.plan.EquipmentPlan.{EquipmentPlan}
 use Rattle.equipment_tables.specs.Plan.{EquipmentPlanFits}
 use Rattle.equipment_tables.specs.Tables.{most_transmitted}
-use Rattle.spool_ledger.specs.Ledger.{carried_out, stood_count}
-use Rattle.spool_ledger.specs.declared.ledger.Stand.{Stand}
+use Rattle.spool_ledger.specs.Ledger.{LedgerView, Numbered, carried_out}
+use Rattle.spool_ledger.specs.Unloading.{unload_next, with_unload}
 use Rattle.spool_works.specs.declared.ended.Ended.{Ended}
 use Rattle.tool_step.specs.declared.kind.Kind.{Kind}
-use Rattle.equipment_node.specs.Amid.{DoesLast, IsReady, IsSendable, IsSoundOwn, asked_node, settled_node}
+use Rattle.equipment_node.specs.Amid.{DoesLast, IsCounted, IsReady, IsSendable, IsSoundOwn, WorksFit, asked_node}
+use Rattle.equipment_node.specs.Amid.{settled_node}
 use Rattle.tool_step.specs.Equipment.{settled_own}
 use Rattle.tool_law.proofs.Lawful.{AllKeepSound, KeepsSound, ended-sound, parts-sound, taking-sound}
 use Rattle.tool_law.proofs.MildCommands.{sound-self}
@@ -30,18 +35,44 @@ use Rattle.tool_step.specs.Spooling.{end_of_spooling}
 use Rattle.tool_law.proofs.SpoolSound.{carried-good, next-good}
 use Rattle.tool_step.specs.Step.{offer}
 use Rattle.tool_step.specs.Taking.{taking}
-use Rattle.equipment_node.proofs.FirstParts.{same-count}
+use Rattle.equipment_node.proofs.HandingBack.{reserved-back}
+use Rattle.equipment_node.proofs.Sizing.{counted-as, counted-behind, counted-still, sizes-then}
 
 -- ---- where the numbers stay
 
-pub same-ready :
-    {D : Type 0} (v w : SpoolView D) (mark : ℕ) (old new : Node OwnView Kind) → IsReady v old → new.own ≡ old.own
-    → w ≡ in_hand w.disk (record (known_of v) { mark = mark }) → IsReady w new
-same-ready {D} v w mark old new ready own same = record {
-  count =
-      ap (λ (x : SpoolView D). count_of x) same ∙ ready.count
-      ∙ ap (λ (o : OwnView). stood_count o.ledger) (sym own);
+pub reserved-ready :
+    {D : Type 0} (members : disk.Ghosts D) (g h : GemSpool D) (base : ℕ) (old new : Node OwnView Kind)
+    → IsReady members g.spool old → new.own ≡ old.own → ReservesFrom members g h (Some base)
+    → ((list : List Message) → HasList members g.spool list → HasList members h.spool list)
+    → IsReady members h.spool new
+reserved-ready {D} members g h base old new ready own done lists = record {
+  counted =
+      subst (λ (o : OwnView). IsCounted members h.spool o.ledger) (sym own)
+      (record {
+        count = ap (λ (x : SpoolView D). count_of x) done.0.2 ∙ ready.counted.count;
+        sizes =
+            sizes-then members g.spool h.spool old.own.ledger.stood.sizes old.own.ledger.stood.sizes
+            (λ (list : List Message). list) (reserved-back members g h (Some base) done) lists (λ list is. is)
+            ready.counted.sizes;
+        some = ready.counted.some;
+      });
   sound = subst IsSoundOwn (sym own) ready.sound;
+}
+
+-- where nothing was done, and where slots were read
+pub same-ready : {D : Type 0} (members : disk.Ghosts D) (v w : SpoolView D) (node : Node OwnView Kind)
+    → IsReady members v node → w ≡ v → IsReady members w node
+same-ready members v w node ready same = subst (λ x. IsReady members x node) (sym same) ready
+
+pub read-ready :
+    {D : Type 0} (members : disk.Ghosts D) (v w : SpoolView D) (looks : List DiskCall) (answer : DiskAnswer)
+    (node : Node OwnView Kind) → IsReady members v node → HasReadSlots members v w looks answer
+    → IsReady members w node
+read-ready {D} members v w looks answer node ready reads = record {
+  counted =
+      counted-still members v w node.own.ledger ready.counted reads.told
+      (ap (λ (x : SpoolView D). count_of x) reads.same);
+  sound = ready.sound;
 }
 
 -- ---- behind the works
@@ -60,16 +91,20 @@ settled-sound own is = record {
 }
 
 pub settled-ready :
-    {D : Type 0} (v w : SpoolView D) (old new : Node OwnView Kind) → IsReady v old → new ≡ settled_node old
-    → count_of w ≡ counts_after (count_of v) old.own.ledger.works
-    → counts_after (stood_count old.own.ledger) old.own.ledger.works ≡ stood_count (carried_out old.own.ledger)
-    → IsReady w new
-settled-ready v w old new ready is count come =
-    subst (λ (n : Node OwnView Kind). IsReady w n) (sym is)
+    {D : Type 0} (members : disk.Ghosts D) (g h : GemSpool D) (old new : Node OwnView Kind)
+    → IsReady members g.spool old → new ≡ settled_node old → WorksFit old.own.ledger
+    → HasCarried members g old.own.ledger.works h → IsReady members h.spool new
+settled-ready members g h old new ready is fit carried =
+    subst (λ (n : Node OwnView Kind). IsReady members h.spool n) (sym is)
     (record {
-      count = count ∙ ap (λ (c : Count). counts_after c old.own.ledger.works) ready.count ∙ come;
+      counted = counted-behind members g h old.own.ledger ready.counted fit carried;
       sound = settled-sound old.own ready.sound;
     })
+
+-- nothing is owed then
+pub settled-owes : (old new : Node OwnView Kind) → new ≡ settled_node old → carried_out new.own.ledger ≡ new.own.ledger
+settled-owes old new is =
+    subst (λ (n : Node OwnView Kind). carried_out n.own.ledger ≡ n.own.ledger) (sym is) refl
 
 -- ---- where the number of the next message was asked for
 
@@ -88,16 +123,28 @@ asked-sound own is core = record {
 }
 
 pub asked-ready :
-    {D : Type 0} (v : SpoolView D) (old new : Node OwnView Kind) → IsReady v old → new.own ≡ (asked_node old).own
-    → IsReady v new
-asked-ready v old new ready own = record {
-  count = ready.count ∙ ap (λ (o : OwnView). stood_count o.ledger) (sym own);
+    {D : Type 0} (members : disk.Ghosts D) (v : SpoolView D) (old new : Node OwnView Kind) → IsReady members v old
+    → new.own ≡ (asked_node old).own → IsReady members v new
+asked-ready members v old new ready own = record {
+  counted =
+      subst (λ (o : OwnView). IsCounted members v o.ledger) (sym own)
+      (counted-as members v old.own.ledger (asked_node old).own.ledger ready.counted refl refl);
   sound = subst IsSoundOwn (sym own) (asked-sound old.own ready.sound old.core);
 }
 
+pub asked-owes :
+    (old new : Node OwnView Kind) → carried_out old.own.ledger ≡ old.own.ledger → new.own ≡ (asked_node old).own
+    → carried_out new.own.ledger ≡ new.own.ledger
+asked-owes old new owes own =
+    subst (λ (o : OwnView). carried_out o.ledger ≡ o.ledger) (sym own)
+    (ap (λ (l : LedgerView). with_unload (unload_next most old.own.ledger old.own.ledger.unload) l) owes)
+  where
+    most : ℕ
+    most = most_transmitted old.own.tables
+
 -- ---- the last parts
 
-module _ (plan : EquipmentPlan) (fits : EquipmentPlanFits plan) (slots : ℕ) (stood : Stand) where
+module _ (plan : EquipmentPlan) (fits : EquipmentPlanFits plan) (slots : ℕ) (stood : Numbered) where
   taking-keeps : (oldest : Option (ℕ × Spooled)) → IsSendable oldest → KeepsSound plan fits slots stood (taking oldest)
   taking-keeps None can own e sound = sound
   taking-keeps (Some oldest) can own e sound =
@@ -113,12 +160,12 @@ module _ (plan : EquipmentPlan) (fits : EquipmentPlanFits plan) (slots : ℕ) (s
 
 pub last-ready :
     {D : Type 0} (members : disk.Ghosts D) (g : GemSpool D) (oldest : Option (ℕ × Spooled)) (now : ℕ)
-    (old new : Node OwnView Kind) (out after : StepOut) (result : Result (GemSpool D) (Ended D)) → IsReady g.spool old
-    → IsSendable oldest
+    (old new : Node OwnView Kind) (out after : StepOut) (result : Result (GemSpool D) (Ended D))
+    → IsReady members g.spool old → IsSendable oldest
     → DoesLast members g (taking oldest ∷ end_of_spooling ∷ offer now ∷ closes ∷ []) old out new after result
-    → IfOk result (λ h. IsReady h.spool new)
+    → IfOk result (λ h. IsReady members h.spool new)
 last-ready members g oldest now old new out after (Err end) ready can does = tt
-last-ready members g oldest now old new out after (Ok h) ready can does =
+last-ready {D} members g oldest now old new out after (Ok h) ready can does =
     let plan = ready.sound.plan in
     let fits = ready.sound.fits in
     let slots = old.own.ledger.slots in
@@ -130,8 +177,9 @@ last-ready members g oldest now old new out after (Ok h) ready can does =
     (parts-sound plan fits slots stood printed_note (taking oldest ∷ end_of_spooling ∷ offer now ∷ closes ∷ [])
     (on_the_way old out) (last-keep plan fits slots stood oldest now can) ready.sound.sound) in
     record {
-      count =
-          ap (λ (x : GemSpool _). count_of x.spool) does.0 ∙ ready.count
-          ∙ sym (same-count old.own.ledger new.own.ledger is.ledger.slots_are is.ledger.stood_is);
+      counted =
+          subst (λ (x : GemSpool D). IsCounted members x.spool new.own.ledger) (sym does.0)
+          (counted-as members g.spool old.own.ledger new.own.ledger ready.counted is.ledger.slots_are
+          is.ledger.stood_is);
       sound = record { plan = plan; fits = fits; sound = sound-self plan slots stood new.own is };
     }

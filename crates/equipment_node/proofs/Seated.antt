@@ -1,10 +1,11 @@
 -- That the spool in hand tells its state, and what becomes of it in a step and at a start.
-use Rattle.std.proofs.Common.{◌≡◌, refl, sym, ap, subst, ◌∙◌, ℕ, Bool, true, false, [], ◌∷◌, Option, Some, if◌then◌else◌}
+use Rattle.std.proofs.Common.{◌≡◌, refl, sym, ap, subst, ◌∙◌, ℕ, Bool, true, false, [], ◌∷◌, Option, Some}
+use Rattle.std.proofs.Common.{if◌then◌else◌}
 use Rattle.std.specs.Prelude.{Err}
 use Rattle.disk_base.specs.Story.{Story}
 use Rattle.disk_base.specs.declared.disk.Disk as disk
 use Rattle.gem_spool.specs.declared.spool.GemSpool.{GemSpool}
-use Rattle.gem_spool.specs.Standing.{file_told, standing_of}
+use Rattle.gem_spool.specs.Standing.{file_told}
 use Rattle.message_flow.specs.declared.step.StepOut.{StepOut}
 use Rattle.spool_file.specs.File.{SpoolFile, file_in}
 use Rattle.spool_slots.specs.Spool.{known_of}
@@ -23,7 +24,7 @@ use Rattle.equipment_node.specs.declared.equipment.Starting.{Starting}
 use Rattle.equipment_node.specs.declared.equipment.Starting.TheVariants as starting
 use Rattle.tool_step.specs.declared.kind.Kind.{Kind}
 use Rattle.tool_step.specs.Disk.{stops}
-use Rattle.tool_step.specs.Equipment.{EquipmentView, act, is_marked_out, started_on, starts}
+use Rattle.tool_step.specs.Equipment.{EquipmentView, act, is_marked_out, started_on, starts, unstarted}
 use Rattle.equipment_node.specs.Held.{Begins, HasMoved, Held, IsIn, view_in}
 use Rattle.equipment_node.specs.InMemory.{stop_at_start}
 use Rattle.tool_law.specs.Laws.{DidOf}
@@ -65,20 +66,16 @@ module _ {D : Type 0} (members : disk.Ghosts D) where
 
   -- ---- a start
 
-  module _ (plan : EquipmentPlan) (fits : EquipmentPlanFits plan) (g : GemSpool D) (h : Held D) (out : StepOut)
-      (is : HasStartedOver members plan g h out)
+  module _ (plan : EquipmentPlan) (fits : EquipmentPlanFits plan) (file : SpoolFile) (h : Held D) (out : StepOut)
+      (is : HasStartedOver members plan file h out)
     where
-      abbrev file : SpoolFile
-      file = (standing_of members g.spool).file
-
       abbrev step : Step EquipmentView Happening
       step = started_on plan file
 
       goes : starts plan file ≡ Goes step
-      goes =
-          ap (λ (out : Bool). if out then Spent (at_first (record step.next { file = file })) else Goes step) is.room
+      goes = ap (λ (out : Bool). if out then Spent (at_first (unstarted plan file)) else Goes step) is.room
 
-      view-is : step.next ≡ view_in members h
+      pub view-is : step.next ≡ view_in members h
       view-is = seen h.spool (node_of h.tool) step.next is.clear is.told is.node_is
 
       pub start-gone : HasGone (starts plan file) (view_in members h) out
@@ -129,11 +126,10 @@ start-spent :
     (plan : EquipmentPlan) (file : SpoolFile) (out : StepOut) → is_marked_out file.mark.value ≡ true → IsEmpty out
     → HasSpent (starts plan file) out
 start-spent plan file out marked empty =
-    let whole : Step EquipmentView Happening = started_on plan file in
-    let unmarked : Step EquipmentView Happening = at_first (record whole.next { file = file }) in
+    let unmarked : Step EquipmentView Happening = at_first (unstarted plan file) in
     record {
       step = unmarked;
-      is = ap (λ (out : Bool). if out then Spent unmarked else Goes whole) marked;
+      is = ap (λ (out : Bool). if out then Spent unmarked else Goes (started_on plan file)) marked;
       notes = empty.notes;
       quiet = empty.line;
     }
@@ -141,21 +137,18 @@ start-spent plan file out marked empty =
 module _ {D : Type 0} (members : disk.Ghosts D) (plan : EquipmentPlan) (out : StepOut) where
   -- nothing is noted where it doesn't start, over a spool in hand
   pub started-ends :
-      {E : Type 0} (g : GemSpool D) (means : E → EquipmentView) (why : Starting D)
-      → StartsOver members plan g out (Err why) → (told : Stop) → told ≡ stop_at_start why
-      → Starts {E = E} ([] ∷ []) (starts plan (standing_of members g.spool).file) means out (Err told)
-  started-ends {E} g means why is told told_is =
-      subst
-      (λ (e : Stop). Starts {E = E} ([] ∷ []) (starts plan (standing_of members g.spool).file) means out (Err e))
-      (sym told_is) (go why is)
+      {E : Type 0} (file : SpoolFile) (means : E → EquipmentView) (why : Starting D)
+      → StartsOver members plan file out (Err why) → (told : Stop) → told ≡ stop_at_start why
+      → Starts {E = E} ([] ∷ []) (starts plan file) means out (Err told)
+  started-ends {E} file means why is told told_is =
+      subst (λ (e : Stop). Starts {E = E} ([] ∷ []) (starts plan file) means out (Err e)) (sym told_is) (go why is)
     where
-      go : (why : Starting D) → StartsOver members plan g out (Err why)
-          → Starts {E = E} ([] ∷ []) (starts plan (standing_of members g.spool).file) means out
-          (Err (stop_at_start why))
+      go : (why : Starting D) → StartsOver members plan file out (Err why)
+          → Starts {E = E} ([] ∷ []) (starts plan file) means out (Err (stop_at_start why))
       go (starting.NoMemory spent) is = is.0
       go (starting.NotSpool raw break) is = absurd is
       go (starting.DiskFailed spent) is = is.0.line
-      go (starting.NumbersSpent spent) is = start-spent plan (standing_of members g.spool).file out is.1 is.0
+      go (starting.NumbersSpent spent) is = start-spent plan file out is.1 is.0
 
   -- nor over a device that tells its bytes
   pub begun-ends :

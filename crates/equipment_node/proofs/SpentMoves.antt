@@ -15,7 +15,7 @@ use Rattle.spool_works.specs.declared.ended.Ended.TheVariants as ended
 use Rattle.equipment_node.specs.declared.equipment.Starting.{Starting}
 use Rattle.equipment_node.specs.declared.equipment.Starting.TheVariants as starting
 use Rattle.equipment_tables.specs.declared.plan.EquipmentPlan.{EquipmentPlan}
-use Rattle.tool_step.specs.Equipment.{EquipmentView, act, is_marked_out, started_on, starts}
+use Rattle.tool_step.specs.Equipment.{EquipmentView, act, is_marked_out, started_on, starts, unstarted}
 use Rattle.equipment_node.specs.Held.{Begins, Held, IsIn, Moves, view_in}
 use Rattle.equipment_node.specs.SpentSteps.{IsSpentByCause, IsStartSpentByCause}
 use Rattle.tool_law.specs.SpentSteps.{ends_spent, finds_spent}
@@ -47,8 +47,8 @@ goes-on :
 goes-on plan file step = go (is_marked_out file.mark.value)
   where
     go : (out : Bool)
-        → (if out then Spent (at_first (record (started_on plan file).next { file = file }))
-        else Goes (started_on plan file)) ≡ Goes step → out ≡ false
+        → (if out then Spent (at_first (unstarted plan file)) else Goes (started_on plan file)) ≡ Goes step
+        → out ≡ false
     go true is = absurd (cc)
     go false is = refl
 

@@ -1,5 +1,5 @@
 -- How the spool stands behind some works of a step, and that no call of a sure disk fails.
-use Rattle.std.proofs.Common.{◌≡◌, refl, sym, ap, subst, ◌∙◌, arith, ◌+◌, ◌-◌, Bool, true, false, ℕ, List, [], ◌∷◌, map}
+use Rattle.std.proofs.Common.{◌≡◌, refl, sym, ap, subst, ◌∙◌, arith, ◌-◌, Bool, true, false, ℕ, List, [], ◌∷◌, map}
 use Rattle.std.proofs.Common.{Some, if◌then◌else◌}
 use Rattle.std.specs.Prelude.{IfOk, Result, Ok, Err}
 use Rattle.disk_base.specs.Faults.{DiskHealth, IsUsed}
@@ -12,12 +12,11 @@ use Rattle.equipment_node.specs.declared.equipment.Starting.{Starting}
 use Rattle.equipment_node.specs.Held.{Held}
 use Rattle.gem_spool.specs.declared.works.Work.{Work}
 use Rattle.gem_spool.specs.Standing.{Standing}
-use Rattle.gem_spool.specs.Works as spool
 use Rattle.gem_spool.specs.Works.{reserved as marked, standing_after, standings_after}
 use Rattle.message_end.specs.Core.{at_first}
 use Rattle.message_end.specs.Core.Went.{Goes}
 use Rattle.equipment_node.specs.Amid.{opened}
-use Rattle.spool_works.specs.DiskWorks.{DiskWork, all_calls, standings_behind}
+use Rattle.spool_works.specs.DiskWorks.{DiskWork, standings_behind}
 use Rattle.tool_step.specs.Disk.{reserve_works, standing_in}
 use Rattle.spool_works.specs.DiskWorks.DiskWork.{Change, Reserve}
 use Rattle.tool_step.specs.Equipment.{EquipmentView, reserving as opening}
@@ -38,23 +37,18 @@ used-sure a b calls bytes used is = record {
 -- and so by a start
 pub start-sure :
     {D : Type 0} (members : disk.Ghosts D) (g h : GemSpool D) (base : ℕ) → ReservesFrom members g h (Some base)
-    → (plan : EquipmentPlan) (other : ℕ) (out_old out_new : StepOut) (result : Result (Held D) (Starting D))
-    → StartsWith plan h other out_old out_new result
+    → (plan : EquipmentPlan) (sizes : List ℕ) (other : ℕ) (out_old out_new : StepOut)
+    (result : Result (Held D) (Starting D)) → StartsWith plan h sizes other out_old out_new result
     → IfOk result (λ (e : Held D). KeepsSure members g.spool.disk e.spool.spool.disk)
-start-sure {D} members g h base reserves plan other out_old out_new (Ok e) starts =
+start-sure {D} members g h base reserves plan sizes other out_old out_new (Ok e) starts =
     subst (λ (k : GemSpool D). KeepsSure members g.spool.disk k.spool.disk) (sym starts.0)
     (used-sure (members.health g.spool.disk) (members.health h.spool.disk) 5 9 reserves.0.0.1.0.cause)
-start-sure members g h base reserves plan other out_old out_new (Err end) starts = tt
+start-sure members g h base reserves plan sizes other out_old out_new (Err end) starts = tt
 
 pub changes-stand :
     (st : Standing) (works : List Work) → standings_behind st (map Change works) ≡ standings_after st works
 changes-stand st [] = refl
 changes-stand st (one ∷ works) = changes-stand (standing_after st one) works
-
-pub calls-change : (st : Standing) (works : List Work) → spool.all_calls st works ≡ all_calls st (map Change works)
-calls-change st [] = refl
-calls-change st (one ∷ works) =
-    ap (λ (n : ℕ). spool.calls_of st one + n) (calls-change (standing_after st one) works)
 
 abbrev reserving_by : Bool → List DiskWork
 reserving_by is = if is then Reserve ∷ [] else []

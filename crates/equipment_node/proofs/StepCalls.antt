@@ -1,7 +1,7 @@
 -- That the calls of the disk in a step are those of its works.
-use Rattle.std.proofs.Common.{◌≡◌, refl, sym, ap, subst, ◌∙◌, arith, ℕ, zero, suc, ◌<◌, ◌==◌, ◌&&◌, ◌||◌, nat_le}
-use Rattle.std.proofs.Common.{nat_lt, not, Bool, true, false, List, [], ◌∷◌, ◌++◌, append_assoc, length, map, Option}
-use Rattle.std.proofs.Common.{Some, None, is_some, if◌then◌else◌}
+use Rattle.std.proofs.Common.{◌≡◌, refl, sym, ap, subst, ◌∙◌, arith, ℕ, zero, suc, ◌<◌, ◌≤◌, ◌==◌, ◌&&◌, ◌||◌, nat_le}
+use Rattle.std.proofs.Common.{nat_lt, not, Bool, true, false, List, [], ◌∷◌, ◌++◌, append-nil, append_assoc, length, map}
+use Rattle.std.proofs.Common.{Option, Some, None, is_some, if◌then◌else◌}
 use Rattle.std.proofs.lemmas.Bool.Decides.{nat_tests}
 use Rattle.std.specs.Prelude.{Result, Ok, Err, is_none}
 use Rattle.disk_base.specs.Calls.{DiskCall}
@@ -10,12 +10,14 @@ use Rattle.disk_base.specs.declared.disk.DiskAnswer.TheVariants.{Done, Failed}
 use Rattle.gem_spool.specs.declared.count.Count.{Count}
 use Rattle.gem_spool.specs.declared.spool.GemSpool.{GemSpool}
 use Rattle.gem_spool.specs.declared.works.Work.{Work}
+use Rattle.gem_spool.specs.Oldest.{HasReadSlots, HasReadSome, oldest_looks}
 use Rattle.gem_spool.specs.Spool.{ReservesFrom}
-use Rattle.gem_spool.specs.Standing.{Standing, Stands, count_in, count_of}
-use Rattle.gem_spool.specs.Works.{HasCarried, counts_after, standings_after}
+use Rattle.gem_spool.specs.Standing.{Standing, Stands, count_in}
+use Rattle.gem_spool.specs.Works.{AreSized, HasCarried, oldest_in, standings_after}
 use Rattle.message_flow.specs.declared.step.StepOut.{StepOut}
-use Rattle.spool_slots.specs.Changes.{HasLooked, Reserves}
-use Rattle.spool_slots.specs.Spool.{SpoolView, first_slot}
+use Rattle.spool_file.proofs.Runs.{chain_up}
+use Rattle.spool_slots.specs.Changes.{Reserves}
+use Rattle.spool_slots.specs.Spool.{SpoolView}
 use Rattle.spool_slots.specs.declared.states.Reserving.TheVariants as reserving
 use Rattle.spool_slots.specs.declared.states.Spent.{Spent as Device}
 use Rattle.trace_log.specs.declared.commands.ToolCommand.{ToolCommand}
@@ -25,28 +27,31 @@ use Rattle.message_end.specs.Core.Went.{Goes, Spent}
 use Rattle.message_end.specs.Ends.{Input}
 use Rattle.message_end.specs.Parts.{Node}
 use Rattle.equipment_tables.specs.Tables.{most_transmitted}
-use Rattle.spool_ledger.specs.Ledger.{LedgerView, carried_out, stood_count}
+use Rattle.spool_ledger.specs.Ledger.{LedgerView, carried_out}
+use Rattle.spool_ledger.specs.Sizes.{oldest_of}
 use Rattle.spool_ledger.specs.Unloading.{is_over, next_number, number_next}
 use Rattle.spool_ledger.specs.declared.unload.Unload.{Unload}
+use Rattle.spool_ledger.proofs.Widths.{widths-long}
 use Rattle.spool_works.specs.declared.ended.Ended.{Ended}
 use Rattle.spool_works.specs.declared.ended.Ended.TheVariants as ended
 use Rattle.tool_step.specs.declared.kind.Kind.{Kind}
-use Rattle.equipment_node.specs.Amid.{Carries, DoesLast, IsBegun, IsBegunSpent, Opens, opened}
+use Rattle.equipment_node.specs.Amid.{Carries, DoesLast, IsBegun, IsBegunSpent, IsCounted, Opens, WorksFit, opened}
 use Rattle.spool_works.specs.DiskWorks.{DiskWork, standing_behind, standings_behind}
 use Rattle.tool_step.specs.Disk.{read_works, reserve_works, standing_in, works_behind, works_of}
 use Rattle.spool_works.specs.DiskWorks.DiskWork.{Change, ReadOldest, Reserve}
-use Rattle.spool_works.specs.DiskCalls.{HasBegunWorks, HasCalled, HasFailedIn, HasMade, all_disk_calls, disk_calls}
-use Rattle.spool_works.specs.DiskCalls.{disk_in}
+use Rattle.spool_works.specs.DiskCalls.{AreFirstReads, HasBegunWorks, HasCalled, HasFailedIn, HasMade}
+use Rattle.spool_works.specs.DiskCalls.{all_disk_calls, disk_calls, disk_in}
 use Rattle.tool_step.specs.Equipment.{EquipmentView, begun_step, is_marked_out, needs_numbers, parts_done}
 use Rattle.tool_step.specs.Equipment.{reserving as opening, settled, settled_step}
 use Rattle.tool_step.specs.Own.{OwnView, ToolPart}
 use Rattle.tool_step.specs.Step.{first_parts}
 use Rattle.equipment_node.specs.Stepping.{IsClear, IsTold}
 use Rattle.equipment_node.proofs.Standings.{changes-stand, opened-behind}
-use Rattle.spool_works.proofs.Called.{all-failed, all-made, failed-before, failed-behind, look-made, look-stops}
-use Rattle.spool_works.proofs.Called.{made-same, made-then, mark-made, mark-stops}
+use Rattle.spool_works.proofs.Called.{all-failed, all-made, failed-before, failed-behind, look-begun, look-made}
+use Rattle.spool_works.proofs.Called.{look-stops, made-same, made-then, mark-made, mark-stops}
 use Rattle.equipment_node.proofs.Opened.{mark-failed}
 use Rattle.equipment_node.proofs.OverDisk.{done-standing, takes-settled}
+use Rattle.equipment_node.proofs.Sizing.{sized-standing}
 
 -- ---- works behind others
 
@@ -59,6 +64,11 @@ calls-both st (x ∷ xs) ys =
     ap (λ (calls : List DiskCall). disk_calls st x ++ calls) (calls-both (standing_behind st x) xs ys)
     ∙ sym (append_assoc (disk_calls st x) (all_disk_calls (standing_behind st x) xs)
     (all_disk_calls (standings_behind (standing_behind st x) xs) ys))
+
+standings-both : (st : Standing) (xs ys : List DiskWork)
+    → standings_behind st (xs ++ ys) ≡ standings_behind (standings_behind st xs) ys
+standings-both st [] ys = refl
+standings-both st (x ∷ xs) ys = standings-both (standing_behind st x) xs ys
 
 module _ {D : Type 0} (members : disk.Ghosts D) where
   module _ (old mid : D) (st : Standing) (xs : List DiskWork)
@@ -86,7 +96,16 @@ module _ {D : Type 0} (members : disk.Ghosts D) where
         first = xs ++ two.first;
         rest = two.rest;
         are = ap (λ (all : List DiskWork). xs ++ all) two.are ∙ sym (append_assoc xs two.first two.rest);
-        made = all-behind spent.disk two.first two.made;
+        reads = two.reads;
+        are_reads =
+            subst (λ (at : Standing). AreFirstReads at two.rest two.reads) (sym (standings-both st xs two.first))
+            two.are_reads;
+        made =
+            subst (λ (calls : List DiskCall). HasMade members old spent.disk calls)
+            (sym (append_assoc (all_disk_calls st xs) (all_disk_calls (standings_behind st xs) two.first) two.reads)
+            ∙ ap (λ (calls : List DiskCall). calls ++ two.reads) (sym (calls-both st xs two.first)))
+            (made-then members old mid spent.disk (all_disk_calls st xs)
+            (all_disk_calls (standings_behind st xs) two.first ++ two.reads) one two.made);
       }
 
   called-wider :
@@ -100,8 +119,20 @@ module _ {D : Type 0} (members : disk.Ghosts D) where
   none-begun :
       (old new : D) (st : Standing) (works : List DiskWork) → new ≡ old
       → HasBegunWorks members old new st works
-  none-begun old new st works same =
-      record { first = []; rest = works; are = refl; made = made-same members old new same }
+  none-begun old new st works same = record {
+    first = [];
+    rest = works;
+    are = refl;
+    reads = [];
+    are_reads = none st works;
+    made = made-same members old new same;
+  }
+    where
+      none : (st : Standing) (works : List DiskWork) → AreFirstReads st works []
+      none st [] = refl
+      none st (Reserve ∷ works) = refl
+      none st (Change one ∷ works) = refl
+      none st (ReadOldest slots ∷ works) = (0, omega arith, refl)
 
   -- ---- system bytes
 
@@ -202,38 +233,41 @@ module _ {D : Type 0} (members : disk.Ghosts D) where
     carry-stops :
         (g : GemSpool D) (works : List Work) (rest : List DiskWork) (st : Standing)
         (out after : StepOut) (end : Ended D) → Stands members g.spool st → IsTold (members.told g.spool.disk)
-        → Carries members g works out after (Err end)
+        → AreSized st.next st.file.list works → Carries members g works out after (Err end)
         → HasCalled members disk_in g.spool.disk st (map Change works ++ rest) (Err end)
-    carry-stops g works rest st out after (ended.DiskFailed spent) stands told cut =
+    carry-stops g works rest st out after (ended.DiskFailed spent) stands told sized cut =
         called-wider g.spool.disk spent.disk st (map Change works) rest
-        (all-failed members g works cut.at cut.undone.failed cut.undone.before spent st stands told.0 told.1
+        (all-failed members g works cut.at cut.undone.failed cut.undone.before spent st stands told.0 told.1 sized
         cut.undone.is cut.undone.done cut.undone.fails)
-    carry-stops g works rest st out after (ended.NumbersSpent spent) stands told cut = absurd cut
-    carry-stops g works rest st out after (ended.NoMemory spent) stands told cut = absurd cut
+    carry-stops g works rest st out after (ended.NumbersSpent spent) stands told sized cut = absurd cut
+    carry-stops g works rest st out after (ended.NoMemory spent) stands told sized cut = absurd cut
 
     module _ (g : GemSpool D) (clear : IsClear members g.spool (opened s)) (told : IsTold (members.told g.spool.disk))
       where
         abbrev stood : Standing
         stood = standing_in (opened s)
 
+        sized : (ledger : LedgerView) → IsCounted members g.spool ledger → WorksFit ledger
+            → AreSized stood.next stood.file.list ledger.works
+        sized ledger counted fit = sized-standing members g.spool stood ledger clear.stands told counted fit
+
         -- the works, and what comes behind them
         pub behind-called :
             (went : opening s ≡ Goes (at_first (opened s))) (h : GemSpool D) (node : Node OwnView Kind) (out : StepOut)
             (begun : IsBegun s input now node out) (result : Result (GemSpool D) (Ended D))
-            → count_of g.spool ≡ stood_count node.own.ledger
-            → counts_after (stood_count node.own.ledger) node.own.ledger.works
-            ≡ stood_count (carried_out node.own.ledger)
+            → IsCounted members g.spool node.own.ledger → WorksFit node.own.ledger
             → HasCarried members g node.own.ledger.works h
             → HasCalled members disk_in h.spool.disk (standing_in (settled begun.step.next))
             (read_works (Goes (settled_step begun.step))) result
             → HasCalled members disk_in g.spool.disk stood (works_behind (begun_step s input now)) result
-        behind-called went h node out begun result count come carried last =
+        behind-called went h node out begun result counted fit carried last =
             subst
             (λ (w : Went EquipmentView Happening).
             HasCalled members disk_in g.spool.disk stood (works_behind w) result) (sym begun.is)
             (called-then g.spool.disk h.spool.disk stood (map Change works)
-            (all-made members g works h stood clear.stands told.0 told.1 carried-is.done) (read_works (Goes begun.step))
-            result
+            (all-made members g works h stood clear.stands told.0 told.1
+            (sized begun.step.next.node.own.ledger counted-is fit-is) carried-is.done)
+            (read_works (Goes begun.step)) result
             (subst
             (λ (x : Standing).
             HasCalled members disk_in h.spool.disk x (read_works (Goes begun.step)) result)
@@ -241,7 +275,7 @@ module _ {D : Type 0} (members : disk.Ghosts D) where
             (subst
             (λ (b : Bool).
             HasCalled members disk_in h.spool.disk (standing_in (settled begun.step.next))
-            (if b then ReadOldest ∷ [] else []) result)
+            (if b then ReadOldest (oldest_of begun.step.next.node.own.ledger.sizes) ∷ [] else []) result)
             (takes-settled members s input now begun.step.next) last)))
           where
             ledger-is : node.own.ledger ≡ begun.step.next.node.own.ledger
@@ -253,25 +287,30 @@ module _ {D : Type 0} (members : disk.Ghosts D) where
             carried-is : HasCarried members g works h
             carried-is = subst (λ (l : LedgerView). HasCarried members g l.works h) ledger-is carried
 
+            counted-is : IsCounted members g.spool begun.step.next.node.own.ledger
+            counted-is = subst (λ (l : LedgerView). IsCounted members g.spool l) ledger-is counted
+
+            fit-is : WorksFit begun.step.next.node.own.ledger
+            fit-is = subst WorksFit ledger-is fit
+
             standing : standings_after stood works ≡ standing_in (settled begun.step.next)
             standing =
-                done-standing members s input now went (Goes begun.step) begun.is g h clear
-                (count ∙ ap stood_count ledger-is)
-                (subst (λ (l : LedgerView). counts_after (stood_count l) l.works ≡ stood_count (carried_out l))
-                ledger-is
-                come)
+                done-standing members s input now went (Goes begun.step) begun.is g h clear told counted-is fit-is
                 begun.file
 
         pub behind-stops :
             (node : Node OwnView Kind) (out after : StepOut) (begun : IsBegun s input now node out) (end : Ended D)
+            → IsCounted members g.spool node.own.ledger → WorksFit node.own.ledger
             → Carries members g node.own.ledger.works out after (Err end)
             → HasCalled members disk_in g.spool.disk stood (works_behind (begun_step s input now)) (Err end)
-        behind-stops node out after begun end cut =
+        behind-stops node out after begun end counted fit cut =
             subst
             (λ (w : Went EquipmentView Happening).
             HasCalled members disk_in g.spool.disk stood (works_behind w) (Err end)) (sym begun.is)
             (carry-stops g begun.step.next.node.own.ledger.works (read_works (Goes begun.step)) stood out after end
             clear.stands told
+            (subst (λ (n : Node OwnView Kind). AreSized stood.next stood.file.list n.own.ledger.works)
+            (sym begun.node_is) (sized node.own.ledger counted fit))
             (subst (λ (n : Node OwnView Kind). Carries members g n.own.ledger.works out after (Err end))
             (sym begun.node_is)
             cut))
@@ -279,26 +318,32 @@ module _ {D : Type 0} (members : disk.Ghosts D) where
         -- a number was wanting
         pub spent-stops :
             (node : Node OwnView Kind) (out after : StepOut) (begun : IsBegunSpent s input now node out) (end : Ended D)
+            → IsCounted members g.spool node.own.ledger → WorksFit node.own.ledger
             → Carries members g node.own.ledger.works out after (Err end)
             → HasCalled members disk_in g.spool.disk stood (works_behind (begun_step s input now)) (Err end)
-        spent-stops node out after begun end cut =
+        spent-stops node out after begun end counted fit cut =
             subst
             (λ (w : Went EquipmentView Happening).
             HasCalled members disk_in g.spool.disk stood (works_behind w) (Err end)) (sym begun.is)
             (carry-stops g begun.step.next.node.own.ledger.works [] stood out after end clear.stands told
+            (subst (λ (l : LedgerView). AreSized stood.next stood.file.list l.works) (sym begun.ledger)
+            (sized node.own.ledger counted fit))
             (subst (λ (l : LedgerView). Carries members g l.works out after (Err end)) (sym begun.ledger) cut))
 
         pub spent-called :
             (h : GemSpool D) (node : Node OwnView Kind) (out : StepOut) (begun : IsBegunSpent s input now node out)
-            (spent : Device D) → HasCarried members g node.own.ledger.works h → spent.disk ≡ h.spool.disk
+            (spent : Device D) → IsCounted members g.spool node.own.ledger → WorksFit node.own.ledger
+            → HasCarried members g node.own.ledger.works h → spent.disk ≡ h.spool.disk
             → HasCalled members disk_in g.spool.disk stood (works_behind (begun_step s input now))
             (Err (ended.NumbersSpent spent))
-        spent-called h node out begun spent carried same =
+        spent-called h node out begun spent counted fit carried same =
             subst
             (λ (w : Went EquipmentView Happening).
             HasMade members g.spool.disk spent.disk (all_disk_calls stood (works_behind w))) (sym begun.is)
             (all-behind g.spool.disk h.spool.disk stood (map Change works)
-            (all-made members g works h stood clear.stands told.0 told.1 carried-is.done) spent.disk []
+            (all-made members g works h stood clear.stands told.0 told.1
+            (subst (λ (l : LedgerView). AreSized stood.next stood.file.list l.works) (sym begun.ledger)
+            (sized node.own.ledger counted fit)) carried-is.done) spent.disk []
             (made-same members h.spool.disk spent.disk same))
           where
             works : List Work
@@ -330,48 +375,65 @@ module _ {D : Type 0} (members : disk.Ghosts D) where
   last-called st g parts old new out after (Err (ended.NoMemory spent)) does =
       none-begun g.spool.disk spent.disk st [] does
 
-  module _ (st : Standing) (v : SpoolView D) (count : count_of v ≡ count_in st) where
-    pub looked-called :
-        (g : GemSpool D) (parts : List ToolPart) (old new : Node OwnView Kind) (out after : StepOut)
-        (result : Result (GemSpool D) (Ended D)) → HasLooked members v g.spool (first_slot v) Done
-        → DoesLast members g parts old out new after result
-        → HasCalled members disk_in v.disk st (ReadOldest ∷ []) result
-    looked-called g parts old new out after result looked does =
-        called-then v.disk g.spool.disk st (ReadOldest ∷ []) (look-made members v g.spool st count looked) []
-        result
-        (last-called st g parts old new out after result does)
+  module _ (st : Standing) (v : SpoolView D) (stands : Stands members v st) where
+    pub below : v.first ≤ v.next
+    below = let up = chain_up v.first v.next st.file.list stands.chain in omega (arith, up)
 
-    pub look-called :
-        (w : SpoolView D) (spent : Device D) → HasLooked members v w (first_slot v) Failed → spent.disk ≡ w.disk
-        → HasCalled members disk_in v.disk st (ReadOldest ∷ []) (Err (ended.DiskFailed spent))
-    look-called w spent looked same =
-        subst
-        (λ (d : D). HasFailedIn members v.disk d (all_disk_calls st (ReadOldest ∷ []))) (sym same)
-        (look-stops members v w st count looked)
+    pub first-is : oldest_in (count_in st) ≡ v.first
+    first-is =
+        let used = ap (λ (c : Count). c.used) stands.count in
+        let next = ap (λ (c : Count). c.next) stands.count in
+        let least = below in
+        omega (arith, used, next, least)
 
-    -- it was read, and there was no memory for it
-    pub unread-called :
-        (w : SpoolView D) (spent : Device D) → HasLooked members v w (first_slot v) Done → spent.disk ≡ w.disk
-        → HasCalled members disk_in v.disk st (ReadOldest ∷ []) (Err (ended.NoMemory spent))
-    unread-called w spent looked same = record {
-      first = ReadOldest ∷ [];
-      rest = [];
-      are = refl;
-      made =
-          subst (λ (d : D). HasMade members v.disk d (all_disk_calls st (ReadOldest ∷ []))) (sym same)
-          (look-made members v w st count looked);
-    }
+    module _ (slots : ℕ) where
+      pub looked-all : (w : SpoolView D) → HasReadSlots members v w (oldest_looks v slots) Done
+          → HasMade members v.disk w.disk (all_disk_calls st (ReadOldest slots ∷ []))
+      looked-all w looked =
+          subst (λ (calls : List DiskCall). HasMade members v.disk w.disk calls)
+          (sym (append-nil (disk_calls st (ReadOldest slots))))
+          (look-made members v w st slots stands.count below looked)
+
+      pub looked-called :
+          (g : GemSpool D) (parts : List ToolPart) (old new : Node OwnView Kind) (out after : StepOut)
+          (result : Result (GemSpool D) (Ended D)) → HasReadSlots members v g.spool (oldest_looks v slots) Done
+          → DoesLast members g parts old out new after result
+          → HasCalled members disk_in v.disk st (ReadOldest slots ∷ []) result
+      looked-called g parts old new out after result looked does =
+          called-then v.disk g.spool.disk st (ReadOldest slots ∷ []) (looked-all g.spool looked) [] result
+          (last-called st g parts old new out after result does)
+
+      pub look-called :
+          (w : SpoolView D) (spent : Device D) → HasReadSlots members v w (oldest_looks v slots) Failed
+          → spent.disk ≡ w.disk
+          → HasCalled members disk_in v.disk st (ReadOldest slots ∷ []) (Err (ended.DiskFailed spent))
+      look-called w spent looked same =
+          subst (λ (d : D). HasFailedIn members v.disk d (all_disk_calls st (ReadOldest slots ∷ []))) (sym same)
+          (subst (λ (calls : List DiskCall). HasFailedIn members v.disk w.disk calls)
+          (sym (append-nil (disk_calls st (ReadOldest slots))))
+          (look-stops members v w st slots stands.count below looked))
+
+      -- some first slots were read, and there was no memory for the message
+      pub unread-called :
+          (w : SpoolView D) (spent : Device D) → HasReadSome members v w (oldest_looks v) slots → spent.disk ≡ w.disk
+          → HasCalled members disk_in v.disk st (ReadOldest slots ∷ []) (Err (ended.NoMemory spent))
+      unread-called w spent some same =
+          subst (λ (d : D). HasBegunWorks members v.disk d st (ReadOldest slots ∷ [])) (sym same)
+          (look-begun members v w st slots stands.count below some)
 
     pub some-there : v.len ≡ 0 → 0 < length st.file.list → ⊥
     some-there none some =
-        let len = ap (λ (c : Count). c.len) count in omega (arith, none, some, len)
+        let len = ap (λ (c : Count). c.len) stands.count in omega (arith, none, some, len)
 
   module _ (t : Step EquipmentView Happening) (old : D) (result : Result (GemSpool D) (Ended D)) where
     abbrev most : ℕ
     most = most_transmitted t.next.node.own.tables
 
+    abbrev oldest : ℕ
+    oldest = oldest_of t.next.node.own.ledger.sizes
+
     abbrev read_by : Option ℕ → List DiskWork
-    read_by number = if is_some number then ReadOldest ∷ [] else []
+    read_by number = if is_some number then ReadOldest oldest ∷ [] else []
 
     -- the next message is asked for, or none
     pub reads-by :
@@ -381,7 +443,7 @@ module _ {D : Type 0} (members : disk.Ghosts D) where
     reads-by number is called =
         subst
         (λ (n : Option ℕ).
-        HasCalled members disk_in old (standing_in t.next) (if is_some n then ReadOldest ∷ [] else []) result)
+        HasCalled members disk_in old (standing_in t.next) (if is_some n then ReadOldest oldest ∷ [] else []) result)
         (sym is) called
 
 -- it is asked for only where there is one
@@ -413,4 +475,6 @@ pub some-asked :
     → 0 < length t.next.file.list
 some-asked members v t n clear some =
     let left = some-left (most_transmitted t.next.node.own.tables) t.next.node.own.ledger n some in
-    let len = clear.len in omega (arith, left, len)
+    let len = ap (λ (sizes : List ℕ). length sizes) clear.sizes_are in
+    let long = widths-long t.next.file.list in
+    omega (arith, left, len, long)

@@ -1,10 +1,8 @@
 -- How a step over a disk in memory ends, and where a planned call has stopped the disk.
-use Rattle.std.proofs.Common.{◌≡◌, refl, sym, ap, subst, ◌∙◌, arith, zero, suc, ◌≤◌, nat_le, Bool, true, false, ℕ}
-use Rattle.std.proofs.Common.{List, [], ◌∷◌, length, Option, Some, None, is_some}
-use Rattle.std.proofs.lemmas.Bool.Decides.{nat_tests}
-use Rattle.std.specs.Prelude.{IfSome, slice_get, Err}
-use Rattle.disk_base.specs.Faults.{IsAmong}
-use Rattle.disk_base.specs.MemDisk.{DiskState, disk_health}
+use Rattle.std.proofs.Common.{◌≡◌, refl, sym, ap, subst, ◌∙◌, Bool, true, false, ℕ, List, [], Option, Some, None}
+use Rattle.std.proofs.Common.{is_some}
+use Rattle.std.specs.Prelude.{IfSome, Err}
+use Rattle.disk_base.specs.MemDisk.{DiskState, HasFitted, disk_health}
 use Rattle.disk_base.specs.contracts.mem_disk.MemDiskDisk.TheImpl.{ghosts}
 use Rattle.disk_base.specs.declared.cut.CutChoice.{CutChoice}
 use Rattle.message_flow.specs.declared.step.StepOut.{StepOut}
@@ -15,18 +13,21 @@ use Rattle.trace_log.specs.Log.{Happening}
 use Rattle.message_end.specs.declared.end.Stop.{Stop}
 use Rattle.message_end.specs.declared.end.Stop.TheVariants as stop
 use Rattle.message_end.specs.Core.{Went, step_in}
-use Rattle.message_end.specs.Ends.{EndsBy, HasLost, Input, IsNearer, Leaves, Loss, call_of}
+use Rattle.message_end.specs.Ends.{EndsBy, HasLost, Input, IsPassed, Leaves, Loss, Passing, Reach, passing}
+use Rattle.message_end.specs.Ends.Passing.{Cuts, Passes as PassesAll}
 use Rattle.equipment_tables.specs.declared.plan.EquipmentPlan.{EquipmentPlan}
 use Rattle.spool_works.specs.declared.ended.Ended.{Ended}
 use Rattle.spool_works.specs.declared.ended.Ended.TheVariants as ended
-use Rattle.equipment_node.specs.Breaking.{BreaksAt, BreaksBy, HasBrokenAt, Passes}
+use Rattle.equipment_node.specs.Breaking.{BreaksBy, HasBrokenAt, Passes}
 use Rattle.spool_works.specs.Breaking.{IsGoingDisk, LeavesImages}
+use Rattle.spool_works.specs.DiskCalls.{HasCalled, HasFailedIn, all_disk_calls}
 use Rattle.tool_step.specs.Disk.{standing_in, works_of}
 use Rattle.equipment_node.specs.DiskCalls.{disk_held}
 use Rattle.tool_step.specs.End.{machine}
 use Rattle.tool_step.specs.Equipment.{EquipmentView, act, begun_step, restarts, starts}
 use Rattle.equipment_node.specs.Held.{HasMoved, Held, view_in}
-use Rattle.equipment_node.specs.InMemory.{HasPower, IsLost, IsWhole, anew_over, file_cut, lost_by, lost_if, stop_told}
+use Rattle.equipment_node.specs.InMemory.{FitsLeft, HasPower, IsBounded, IsLost, IsStopOf, IsWhole, StopsAs, anew_over}
+use Rattle.equipment_node.specs.InMemory.{disk_reach, file_cut, lost_by, lost_if}
 use Rattle.gem_spool.specs.Updates.{Left}
 use Rattle.tool_law.proofs.Lawful.{IsGoodView, act-good}
 use Rattle.tool_law.proofs.LawfulLosses.{LeavesWell, all-well}
@@ -35,21 +36,8 @@ use Rattle.spool_works.proofs.LossCounts.{has-call}
 use Rattle.tool_step.specs.Losses.{left_as, losses}
 use Rattle.tool_law.specs.Sound.{AllCanBeSent}
 use Rattle.equipment_node.specs.Stepping.{IsMade, stop_by}
-
--- ---- a call that isn't among these
-
-get-none : {X : Type 0} (xs : List X) (n : ℕ) → length xs ≤ n → slice_get xs n ≡ None
-get-none [] n is = refl
-get-none (x ∷ xs) zero is = absurd (omega (arith, is))
-get-none (x ∷ xs) (suc n) is = get-none xs n (omega (arith, is))
-
-pub none-at : {X : Type 0} (call : ℕ) (xs : List X) → (IsAmong call (length xs) → ⊥) → call_of call xs ≡ None
-none-at zero xs not = refl
-none-at (suc n) xs not = get-none xs n (go (nat_le (suc n) (length xs)) refl)
-  where
-    go : (within : Bool) → nat_le (suc n) (length xs) ≡ within → length xs ≤ n
-    go true e = absurd (not (omega arith, grind (arith, nat_tests, e)))
-    go false e = grind (arith, nat_tests, e)
+use Rattle.equipment_node.proofs.Broken.{passed-by}
+use Rattle.equipment_node.proofs.Reaching.{cut-at, lacked, reached}
 
 module _ (plan : EquipmentPlan) (h : Held DiskState) (power : HasPower ghosts plan h) (input : Input ToolCommand)
     (now : ℕ) (out : StepOut)
@@ -73,16 +61,26 @@ module _ (plan : EquipmentPlan) (h : Held DiskState) (power : HasPower ghosts pl
     goes =
         record { fails_not = power.fails_not; going = record { exact = refl; on = power.going } }
 
+    abbrev disk : DiskState
+    disk = h.spool.spool.disk
+
+    -- the bounds of its list stay
+    same-bounds : (later : DiskState) → (disk_health later).bounds ≡ (disk_health disk).bounds → IsBounded later
+    same-bounds later kept = (
+      ap (λ (w : ℕ × ℕ). w.0) kept ∙ power.bounded.0,
+      ap (λ (w : ℕ × ℕ). w.1) kept ∙ power.bounded.1,
+    )
+
     -- ---- it goes on
 
     module _ (k : Held DiskState) (moved : HasMoved ghosts h input now out k)
-        (passes : Passes ghosts h.spool.spool.disk some k.spool.spool.disk)
+        (passes : Passes ghosts disk some k.spool.spool.disk) (fitted : HasFitted k.spool.spool.disk)
       where
         pub ok-ends :
             (lost : Option DiskState) → lost ≡ None
-            → IsNearer some call k.spool.spool.disk.plan.stop_in × (is_some lost ≡ false)
+            → (passing (disk_reach disk) some ≡ PassesAll (disk_reach k.spool.spool.disk)) × (is_some lost ≡ false)
         ok-ends lost none = (
-          record { passes = none-at call some (passes goes).passes; left = (passes goes).nearer },
+          reached disk k.spool.spool.disk power.fitted fitted power.going passes.are.used.bounds_kept some passes,
           ap (λ (o : Option DiskState). is_some o) none,
         )
 
@@ -91,14 +89,18 @@ module _ (plan : EquipmentPlan) (h : Held DiskState) (power : HasPower ghosts pl
             ap (λ (went : Went EquipmentView Happening). (step_in went).next) moved.gone.is ∙ moved.gone.next_is
 
         ok-power : HasPower ghosts plan k
-        ok-power = record {
-          in_state = moved.in_state;
-          fails_not = (passes goes).on.fails_not;
-          going = (passes goes).on.going.on;
-          plan_is =
-              ap (λ (x : EquipmentView). x.node.own.plan) (sym next-is)
-              ∙ (act-good made.plan made.fits s input now good).own.plan_is ∙ sym good.own.plan_is ∙ power.plan_is;
-        }
+        ok-power =
+            let passed = passed-by ghosts disk k.spool.spool.disk some passes goes in
+            record {
+              in_state = moved.in_state;
+              fails_not = passed.on.fails_not;
+              going = passed.on.going.on;
+              bounded = same-bounds k.spool.spool.disk passes.are.used.bounds_kept;
+              fitted = fitted;
+              plan_is =
+                  ap (λ (x : EquipmentView). x.node.own.plan) (sym next-is)
+                  ∙ (act-good made.plan made.fits s input now good).own.plan_is ∙ sym good.own.plan_is ∙ power.plan_is;
+            }
 
         pub ok-whole : (lost : Option DiskState) → lost ≡ None → IsWhole ghosts plan (Some k) lost
         ok-whole lost none =
@@ -125,10 +127,17 @@ module _ (plan : EquipmentPlan) (h : Held DiskState) (power : HasPower ghosts pl
       can-left choice =
           subst (λ (left : EquipmentView). AllCanBeSent left.file.list) (sym (left-is choice)) (at-left.at choice).can
 
-      is-lost : IsLost lost
-      is-lost = record {
+      version-left : (choice : CutChoice) → (at.loss.left choice).file.version ≡ 2
+      version-left choice =
+          ap (λ (left : EquipmentView). left.file.version) (left-is choice) ∙ (at-left.at choice).version_is
+          ∙ power.in_state.on.clear.version_is
+
+      is-lost : IsBounded lost → IsLost lost
+      is-lost bounded = record {
+        version = λ choice. ap (λ (file : SpoolFile). file.version) (file-is choice) ∙ version-left choice;
         can = λ choice.
             subst (λ (file : SpoolFile). AllCanBeSent file.list) (sym (file-is choice)) (can-left choice);
+        bounded = bounded;
       }
 
       starts-so : (choice : CutChoice) (later : ℕ)
@@ -138,98 +147,120 @@ module _ (plan : EquipmentPlan) (h : Held DiskState) (power : HasPower ghosts pl
           ∙ ap (λ (p : EquipmentPlan). starts p (at.loss.left choice).file)
           (sym (ap (λ (left : EquipmentView). left.node.own.plan) (left-is choice) ∙ power.plan_is))
 
-      has-lost : HasLost machine some call (λ choice later. anew_over ghosts plan None (Some lost) choice later) out
-      has-lost = record {
-        loss = at.loss;
-        is = at.is;
-        notes = at.noted;
-        starts = λ choice later. starts-so choice later;
-      }
+      has-lost : passing (disk_reach disk) some ≡ Cuts at.loss
+          → HasLost machine (passing (disk_reach disk) some)
+          (λ choice later. anew_over ghosts plan None (Some lost) choice later) out
+      has-lost cut =
+          record { loss = at.loss; is = cut; notes = at.noted; starts = λ choice later. starts-so choice later }
 
     -- ---- it ends
 
-    abbrev Ends : Option (Held DiskState) → Option DiskState → ℕ → Stop → Type 0
+    abbrev Ends : Option (Held DiskState) → Option DiskState → Reach → Stop → Type 0
     Ends going lost after why =
-        EndsBy machine some call after (is_some lost)
+        EndsBy machine some (disk_reach disk) after (is_some lost)
         (λ choice later. anew_over ghosts plan going lost choice later) out (Err why)
 
-    module _ (spent : Device DiskState)
-        (breaks : IsGoingDisk (disk_health h.spool.spool.disk)
-        → BreaksAt ghosts h.spool.spool.disk some spent.disk out.notes)
-      where
-        abbrev is_stopped : Bool
-        is_stopped = spent.disk.plan.stopped
+    abbrev Images : Option DiskState → Type 0
+    Images lost = IfSome lost (λ (d : DiskState). LeavesImages d.story)
 
-        broken : is_stopped ≡ true → LeavesImages spent.disk.story
+    module _ (spent : Device DiskState)
+        (breaks : BreaksBy ghosts disk_held disk some out.notes (Err (ended.DiskFailed spent)))
+        (failed : HasFailedIn ghosts disk spent.disk (all_disk_calls (standing_in s) (works_of s input now)))
+        (fitted : HasFitted spent.disk)
+      where
+        broken : spent.disk.plan.stopped ≡ true → LeavesImages spent.disk.story
             → HasBrokenAt some call spent.disk.story out.notes
-        broken so images = breaks goes spent.disk.story refl images so
+        broken so images = breaks.0 goes spent.disk.story refl images so
 
         failed-ends :
-            (after : ℕ) (is : Bool) → is_stopped ≡ is
-            → IfSome (lost_if is spent.disk) (λ (d : DiskState). LeavesImages d.story)
-            → Ends None (lost_if is spent.disk) after (stop_told (is_some (lost_if is spent.disk)) stop.DiskFailed)
-        failed-ends after true so images = has-lost spent.disk (broken so images)
-        failed-ends after false so images = tt
+            (after : Reach) (is : Bool) → spent.disk.plan.stopped ≡ is → Images (lost_if is spent.disk) → (why : Stop)
+            → StopsAs is spent.disk why → Ends None (lost_if is spent.disk) after why
+        failed-ends after true so images why stops =
+            let at = broken so images in
+            subst (λ (w : Stop). Ends None (Some spent.disk) after w) (sym stops)
+            (has-lost spent.disk at
+            (cut-at disk spent.disk power.fitted fitted power.going failed.fault.bounds_kept some out.notes breaks.1 _ _
+            failed.fault goes so at.loss at.is))
+        failed-ends after false so images stop.NoMemory stops = tt
+        failed-ends after false so images stop.DiskFailed stops = record {
+          loss = breaks.1.loss;
+          is =
+              lacked disk spent.disk power.fitted fitted power.going failed.fault.bounds_kept some out.notes breaks.1
+              _ _ failed.fault so stops;
+          notes = breaks.1.noted;
+        }
+        failed-ends after false so images stop.NumbersSpent stops = absurd stops
+        failed-ends after false so images stop.Full stops = absurd stops
 
         failed-whole :
-            (is : Bool) → is_stopped ≡ is
-            → IfSome (lost_if is spent.disk) (λ (d : DiskState). LeavesImages d.story)
+            (is : Bool) → spent.disk.plan.stopped ≡ is → Images (lost_if is spent.disk)
             → IsWhole ghosts plan None (lost_if is spent.disk)
-        failed-whole true so images = is-lost spent.disk (broken so images)
+        failed-whole true so images =
+            is-lost spent.disk (broken so images) (same-bounds spent.disk failed.fault.bounds_kept)
         failed-whole false so images = tt
 
     abbrev Breaks : Ended DiskState → Type 0
-    Breaks end = BreaksBy ghosts disk_held h.spool.spool.disk some out.notes (Err end)
+    Breaks end = BreaksBy ghosts disk_held disk some out.notes (Err end)
+
+    abbrev Called : Ended DiskState → Type 0
+    Called end = HasCalled ghosts disk_held disk (standing_in s) (works_of s input now) (Err end)
 
     ends-at :
-        (end : Ended DiskState) (after : ℕ)
-        → IfSome (lost_by end) (λ (d : DiskState). LeavesImages d.story) → Breaks end
-        → Ends None (lost_by end) after (stop_told (is_some (lost_by end)) (stop_by end))
-    ends-at (ended.NoMemory spent) after images breaks = tt
-    ends-at (ended.NumbersSpent spent) after images breaks = none-at call some (breaks goes).passes
-    ends-at (ended.DiskFailed spent) after images breaks =
-        failed-ends spent breaks after (is_stopped spent breaks) refl images
+        (end : Ended DiskState) (after : Reach) → Images (lost_by end) → Breaks end → Called end → FitsLeft end
+        → (why : Stop) → IsStopOf end why → Ends None (lost_by end) after why
+    ends-at (ended.NoMemory spent) after images breaks called fitted why is =
+        subst (λ (w : Stop). Ends None None after w) (sym is) tt
+    ends-at (ended.NumbersSpent spent) after images breaks called fitted why is =
+        subst (λ (w : Stop). Ends None None after w) (sym is)
+        (subst (λ (passed : Passing EquipmentView). IsPassed passed)
+        (sym
+        (reached disk spent.disk power.fitted fitted power.going breaks.are.used.bounds_kept some breaks)) tt)
+    ends-at (ended.DiskFailed spent) after images breaks called fitted why is =
+        failed-ends spent breaks called fitted after spent.disk.plan.stopped refl images why is
 
     whole-at :
-        (end : Ended DiskState) → IfSome (lost_by end) (λ (d : DiskState). LeavesImages d.story) → Breaks end
+        (end : Ended DiskState) → Images (lost_by end) → Breaks end → Called end → FitsLeft end
         → IsWhole ghosts plan None (lost_by end)
-    whole-at (ended.NoMemory spent) images breaks = tt
-    whole-at (ended.NumbersSpent spent) images breaks = tt
-    whole-at (ended.DiskFailed spent) images breaks =
-        failed-whole spent breaks (is_stopped spent breaks) refl images
+    whole-at (ended.NoMemory spent) images breaks called fitted = tt
+    whole-at (ended.NumbersSpent spent) images breaks called fitted = tt
+    whole-at (ended.DiskFailed spent) images breaks called fitted =
+        failed-whole spent breaks called fitted spent.disk.plan.stopped refl images
 
-    module _ (end : Ended DiskState) (lost : Option DiskState) (lost-is : lost ≡ lost_by end)
-        (images : IfSome lost (λ (d : DiskState). LeavesImages d.story)) (going : Option (Held DiskState))
-        (gone : going ≡ None) (breaks : Breaks end)
+    module _ (end : Ended DiskState) (lost : Option DiskState) (lost-is : lost ≡ lost_by end) (images : Images lost)
+        (going : Option (Held DiskState)) (gone : going ≡ None) (breaks : Breaks end) (called : Called end)
+        (fitted : FitsLeft end)
       where
-        images-by : IfSome (lost_by end) (λ (d : DiskState). LeavesImages d.story)
-        images-by = subst (λ (o : Option DiskState). IfSome o (λ (d : DiskState). LeavesImages d.story)) lost-is images
+        images-by : Images (lost_by end)
+        images-by = subst Images lost-is images
 
-        pub err-ends : (after : ℕ) (told why : Stop) → told ≡ stop_told (is_some lost) why → why ≡ stop_by end
-            → Ends going lost after told
-        err-ends after told why told_is why_is =
-            subst (λ (e : Stop). Ends going lost after e) (sym told_is)
-            (subst (λ (e : Stop). Ends going lost after (stop_told (is_some lost) e)) (sym why_is)
-            (subst
-            (λ (o : Option (Held DiskState)). Ends o lost after (stop_told (is_some lost) (stop_by end)))
-            (sym gone)
-            (subst
-            (λ (o : Option DiskState). Ends None o after (stop_told (is_some o) (stop_by end))) (sym lost-is)
-            (ends-at end after images-by breaks))))
+        pub err-ends : (after : Reach) (why : Stop) → IsStopOf end why → Ends going lost after why
+        err-ends after why is =
+            subst (λ (o : Option (Held DiskState)). Ends o lost after why) (sym gone)
+            (subst (λ (o : Option DiskState). Ends None o after why) (sym lost-is)
+            (ends-at end after images-by breaks called fitted why is))
 
         pub err-whole : IsWhole ghosts plan going lost
         err-whole =
             subst (λ (o : Option (Held DiskState)). IsWhole ghosts plan o lost) (sym gone)
             (subst (λ (o : Option DiskState). IsWhole ghosts plan None o) (sym lost-is)
-            (whole-at end images-by breaks))
+            (whole-at end images-by breaks called fitted))
 
 -- where it is told as want of memory it sends nothing, either
-pub told-leaves :
-    (fronts : List (List Happening)) (went : Went EquipmentView Happening) (next : EquipmentView) (out : StepOut)
-    (is_lost : Bool) (why : Stop) → Leaves fronts false went next out (Err why)
-    → Leaves fronts false went next out (Err (stop_told is_lost why))
-told-leaves fronts went next out is_lost stop.NoMemory leaves = leaves
-told-leaves fronts went next out is_lost stop.NumbersSpent leaves = leaves
-told-leaves fronts went next out is_lost stop.Full leaves = leaves
-told-leaves fronts went next out true stop.DiskFailed leaves = leaves
-told-leaves fronts went next out false stop.DiskFailed leaves = leaves.quiet
+module _ (fronts : List (List Happening)) (went : Went EquipmentView Happening) (next : EquipmentView) (out : StepOut)
+  where
+    abbrev LeavesSo : Stop → Type 0
+    LeavesSo why = Leaves fronts false went next out (Err why)
+
+    failed-leaves : (disk : DiskState) (is : Bool) (why : Stop) → StopsAs is disk why → LeavesSo stop.DiskFailed
+        → LeavesSo why
+    failed-leaves disk true why stops leaves = subst LeavesSo (sym stops) leaves
+    failed-leaves disk false stop.NoMemory stops leaves = leaves.quiet
+    failed-leaves disk false stop.DiskFailed stops leaves = leaves
+    failed-leaves disk false stop.NumbersSpent stops leaves = absurd stops
+    failed-leaves disk false stop.Full stops leaves = absurd stops
+
+    pub told-leaves : (end : Ended DiskState) (why : Stop) → IsStopOf end why → LeavesSo (stop_by end) → LeavesSo why
+    told-leaves (ended.NoMemory spent) why is leaves = subst LeavesSo (sym is) leaves
+    told-leaves (ended.NumbersSpent spent) why is leaves = subst LeavesSo (sym is) leaves
+    told-leaves (ended.DiskFailed spent) why is leaves =
+        failed-leaves spent.disk spent.disk.plan.stopped why is leaves

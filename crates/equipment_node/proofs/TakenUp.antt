@@ -1,14 +1,12 @@
 -- That a start from a device comes to the start from what the device tells.
-use Rattle.std.proofs.Common.{◌≡◌, sym, ap, subst, ◌∙◌, inl, inr, true, Option, Some, None}
+use Rattle.std.proofs.Common.{◌≡◌, sym, ap, subst, ◌∙◌, inl, inr, Option, Some, None}
 use Rattle.std.specs.Option.{option_map}
 use Rattle.std.specs.Prelude.{IfOk, Result, Ok, Err}
 use Rattle.disk_base.specs.Story.{Story, with_sync}
-use Rattle.disk_base.specs.Through.{EachImage}
 use Rattle.disk_base.specs.declared.disk.Disk as disk
-use Rattle.gem_spool.specs.declared.spool.GemSpool.{GemSpool}
 use Rattle.gem_spool.specs.Standing.{file_told, standing_of}
 use Rattle.message_flow.specs.declared.step.StepOut.{StepOut}
-use Rattle.spool_file.specs.File.{SpoolFile, StandsFor, file_in, spool_break}
+use Rattle.spool_file.specs.File.{SpoolFile, file_in, spool_break}
 use Rattle.spool_file.specs.declared.reading.NotSpool.{NotSpool}
 use Rattle.spool_slots.specs.Changes.{Recovers}
 use Rattle.spool_slots.specs.Spool.{Rests, SpoolView, known_of}
@@ -16,16 +14,15 @@ use Rattle.spool_slots.specs.declared.states.Raw.{Raw}
 use Rattle.spool_slots.specs.declared.states.Recovering.{Recovering}
 use Rattle.spool_slots.specs.declared.states.Recovering.TheVariants as recovering
 use Rattle.spool_slots.specs.declared.states.Spent.{Spent as Device}
-use Rattle.message_end.specs.Ends.{HasGone, IsEmpty}
+use Rattle.message_end.specs.Ends.{IsEmpty}
 use Rattle.equipment_tables.specs.declared.plan.EquipmentPlan.{EquipmentPlan}
 use Rattle.equipment_tables.specs.Plan.{EquipmentPlanFits}
 use Rattle.equipment_node.specs.declared.equipment.Starting.{Starting}
 use Rattle.equipment_node.specs.declared.equipment.Starting.TheVariants as starting
 use Rattle.spool_works.specs.Found.{first_in}
-use Rattle.tool_step.specs.Equipment.{is_marked_out, starts}
-use Rattle.equipment_node.specs.Held.{Begins, FindsFile, HasMark, Held, IsIn, starting_by, view_in}
+use Rattle.equipment_node.specs.Held.{Begins, FindsFile, Held, IsIn, starting_by}
 use Rattle.tool_law.specs.Sound.{AllCanBeSent}
-use Rattle.equipment_node.specs.StartOver.{HasStartedOver, IsFresh, IsSureDisk, KeepsSure, StartsOver}
+use Rattle.equipment_node.specs.StartOver.{HasStartedOver, IsFresh, KeepsSure, StartsOver}
 use Rattle.equipment_node.proofs.Standings.{used-sure}
 use Rattle.equipment_node.proofs.FoundBytes.{found-sent}
 use Rattle.equipment_node.proofs.Seated.{start-gone, start-in}
@@ -49,15 +46,14 @@ not-found s (recovering.Failed spent) = tt
 -- a disk that a spool was taken up from is sure still
 pub taken-sure :
     {D : Type 0} (members : disk.Ghosts D) (old : D) (v : SpoolView D) → Recovers members old (Ok v)
-    → (g : GemSpool D) → g.spool ≡ v → (result : Result (Held D) (Starting D))
-    → IfOk result (λ (h : Held D). KeepsSure members g.spool.disk h.spool.spool.disk)
+    → (result : Result (Held D) (Starting D))
+    → IfOk result (λ (h : Held D). KeepsSure members v.disk h.spool.spool.disk)
     → IfOk result (λ (h : Held D). KeepsSure members old h.spool.spool.disk)
-taken-sure members old v is g same (Err why) keeps = tt
-taken-sure {D} members old v is g same (Ok h) keeps = λ sure.
+taken-sure members old v is (Err why) keeps = tt
+taken-sure {D} members old v is (Ok h) keeps = λ sure.
     keeps
-    (subst (λ (x : SpoolView D). IsSureDisk (members.health x.disk)) (sym same)
     (used-sure is.0.synced (members.health v.disk) is.0.reads.made 0 is.0.reads.cause
-    (used-sure (members.health old) is.0.synced 1 0 is.0.cause sure)))
+    (used-sure (members.health old) is.0.synced 1 0 is.0.cause sure))
 
 module _ {D : Type 0} (members : disk.Ghosts D) (old : D) (s : Story) (told : members.told old ≡ Some s) where
   abbrev file : SpoolFile
@@ -96,55 +92,43 @@ module _ {D : Type 0} (members : disk.Ghosts D) (old : D) (s : Story) (told : me
 
   -- ---- it is taken up
 
-  module _ (v : SpoolView D) (is : Recovers members old (Ok v)) (g : GemSpool D) (same : g.spool ≡ v) where
-    pub now-told : members.told g.spool.disk ≡ Some (with_sync s)
-    now-told =
-        ap (λ (x : SpoolView D). members.told x.disk) same ∙ is.0.told ∙ ap (option_map with_sync) told
+  module _ (v : SpoolView D) (is : Recovers members old (Ok v)) where
+    now-told : members.told v.disk ≡ Some (with_sync s)
+    now-told = is.0.told ∙ ap (option_map with_sync) told
 
     -- what is found is what its bytes hold
-    pub file-is : (standing_of members g.spool).file ≡ file
-    file-is = ap (λ (tells : Option Story). file_told tells (known_of g.spool)) now-told
+    pub file-is : (standing_of members v).file ≡ file
+    file-is = ap (λ (tells : Option Story). file_told tells (known_of v)) now-told
 
     rests : Rests (with_sync s) (known_of v)
     rests = (is.1 s told).0
 
-    pub is-fresh : IsFresh members g
+    pub is-fresh : IsFresh members v
     is-fresh = record {
       told = (with_sync s, now-told);
-      first =
-          ap (λ (x : SpoolView D). x.first) same ∙ (is.1 s told).1 ∙ ap (λ (f : SpoolFile). first_in f) (sym file-is);
+      first = (is.1 s told).1 ∙ ap (λ (f : SpoolFile). first_in f) (sym file-is);
     }
-
-    marked-is : (t : Story) → EachImage (HasMark (standing_of members g.spool).file) t.now
-        → EachImage (HasMark file) t.now
-    marked-is t left = subst (λ (f : SpoolFile). EachImage (HasMark f) t.now) file-is left
 
     -- what its messages want to be sent, they have
     begun-in :
         (plan : EquipmentPlan) → EquipmentPlanFits plan → (out : StepOut) (h : Held D)
-        → HasStartedOver members plan g h out → AllCanBeSent file.list → IsIn members h
-    begun-in plan fits out h has can =
-        start-in members plan fits g h out has
-        (subst (λ (f : SpoolFile). AllCanBeSent f.list) (sym file-is) can)
+        → HasStartedOver members plan file h out → AllCanBeSent file.list → IsIn members h
+    begun-in plan fits out h has can = start-in members plan fits file h out has can
 
     pub begun-over :
         (plan : EquipmentPlan) → EquipmentPlanFits plan → (out : StepOut) (result : Result (Held D) (Starting D))
-        → StartsOver members plan g out result → Begins members plan s out result
-    begun-over plan fits out (Ok h) has = record {
-      gone =
-          subst
-          (λ (f : SpoolFile). HasGone (starts plan f) (view_in members h) out)
-          file-is (start-gone members plan fits g h out has);
-      in_state = λ are. begun-in plan fits out h has (found-sent s.now.bytes are rests.sound);
-      can_go = λ can. begun-in plan fits out h has can;
-    }
-    begun-over plan fits out (Err (starting.NumbersSpent spent)) has = (
-      has.0,
-      subst (λ (f : SpoolFile). is_marked_out f.mark.value ≡ true) file-is has.1,
-      λ t now. subst (λ (f : SpoolFile). EachImage (λ image. StandsFor image f) t.now) file-is (has.2 t now),
-    )
-    begun-over plan fits out (Err (starting.DiskFailed spent)) has =
-        (has.0, (λ t now. inr (marked-is t (has.1.left t now))))
-    begun-over plan fits out (Err (starting.NoMemory spent)) has =
-        (has.0, (λ t now. marked-is t (has.1.left t now)))
-    begun-over plan fits out (Err (starting.NotSpool raw break)) has = absurd has
+        → StartsOver members plan (standing_of members v).file out result → Begins members plan s out result
+    begun-over plan fits out result over =
+        go result (subst (λ (f : SpoolFile). StartsOver members plan f out result) file-is over)
+      where
+        go : (result : Result (Held D) (Starting D)) → StartsOver members plan file out result
+            → Begins members plan s out result
+        go (Ok h) has = record {
+          gone = start-gone members plan fits file h out has;
+          in_state = λ are. begun-in plan fits out h has (found-sent s.now.bytes are rests.sound);
+          can_go = λ can. begun-in plan fits out h has can;
+        }
+        go (Err (starting.NumbersSpent spent)) has = has
+        go (Err (starting.DiskFailed spent)) has = (has.0, (λ t now. inr (has.1 t now)))
+        go (Err (starting.NoMemory spent)) has = has
+        go (Err (starting.NotSpool raw break)) has = absurd has

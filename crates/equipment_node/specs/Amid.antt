@@ -1,13 +1,15 @@
 -- What the code says of the pieces of a step over the disk.
-use Rattle.std.specs.Prelude.{◌≡◌, ℕ, true, List, [], ◌∷◌, Option, Some, None, Result, Ok, Err, if◌then◌else◌}
+use Rattle.std.specs.Prelude.{◌≡◌, ℕ, true, All, List, [], ◌∷◌, map, Option, Some, None, Result, Ok, Err, if◌then◌else◌}
 use Rattle.disk_base.specs.Story.{Story}
 use Rattle.disk_base.specs.Through.{EachImage}
 use Rattle.disk_base.specs.declared.disk.Disk as disk
 use Rattle.gem_spool.specs.declared.spool.GemSpool.{GemSpool}
 use Rattle.gem_spool.specs.declared.works.Work.{Work}
 use Rattle.gem_spool.specs.Standing.{Standing, count_of}
-use Rattle.gem_spool.specs.Works.{HasCarried, HasUndone, IsMarked}
+use Rattle.gem_spool.specs.Works.{HasCarried, HasUndone, IsMarked, counts_after}
 use Rattle.message_flow.specs.declared.step.StepOut.{StepOut}
+use Rattle.spool_file.specs.File.{file_in}
+use Rattle.spool_file.specs.Slot.{width}
 use Rattle.spool_slots.specs.Spool.{SpoolView}
 use Rattle.spool_slots.specs.declared.states.Spent.{Spent}
 use Rattle.trace_log.specs.declared.commands.ToolCommand.{ToolCommand}
@@ -23,7 +25,8 @@ use Rattle.message_end.specs.Parts.{Node, after_parts, on_the_way}
 use Rattle.equipment_tables.specs.declared.plan.EquipmentPlan.{EquipmentPlan}
 use Rattle.equipment_tables.specs.Plan.{EquipmentPlanFits}
 use Rattle.equipment_tables.specs.Tables.{most_transmitted}
-use Rattle.spool_ledger.specs.Ledger.{stood_count}
+use Rattle.spool_ledger.specs.Ledger.{IsSome, LedgerView, carried_out, stood_count}
+use Rattle.spool_ledger.specs.Sizes.{AreSizedBy, all_sizes_after}
 use Rattle.spool_ledger.specs.Unloading.{after_next}
 use Rattle.spool_works.specs.declared.ended.Ended.{Ended}
 use Rattle.spool_works.specs.declared.ended.Ended.TheVariants as ended
@@ -32,7 +35,8 @@ use Rattle.tool_core.specs.Calls.{IsSpent}
 use Rattle.equipment_node.specs.Cut.{cut_at}
 use Rattle.tool_step.specs.Disk.{reserve_works, standing_in, takes_up}
 use Rattle.spool_works.specs.DiskWorks.DiskWork.{Reserve}
-use Rattle.tool_step.specs.Equipment.{EquipmentView, act, begun_step, ended_step, needs_numbers, reserved, reserving, settled_own}
+use Rattle.tool_step.specs.Equipment.{EquipmentView, act, begun_step, ended_step, needs_numbers, reserved, reserving}
+use Rattle.tool_step.specs.Equipment.{settled_own}
 use Rattle.tool_step.specs.Left.{Holds}
 use Rattle.tool_step.specs.Own.{OwnView, ToolPart, with_ledger}
 use Rattle.tool_law.specs.Sound.{CanBeSent, IsSound}
@@ -46,10 +50,19 @@ pub record IsSoundOwn (own : OwnView) : Type 0 where
   pub fits : EquipmentPlanFits plan
   pub sound : IsSound plan own.ledger.slots own.ledger.stood own
 
--- the spool in hand has as many messages as its ledger takes the disk to have, and what is kept is sound: so it is
--- between two steps, whatever its disk tells
-pub record IsReady {D : Type 0} (v : SpoolView D) (node : Node OwnView Kind) : Type 0 where
-  pub count : count_of v ≡ stood_count node.own.ledger
+-- the messages in hand take so many slots each, where the disk tells its bytes
+abbrev pub HasSizes : {D : Type 0} → disk.Ghosts D → SpoolView D → List ℕ → Type 0
+HasSizes members v sizes = (s : Story) → members.told v.disk ≡ Some s → map width (file_in s.now.bytes).list ≡ sizes
+
+-- the spool in hand has the messages that its ledger takes the disk to have: as many, of these sizes
+pub record IsCounted {D : Type 0} (members : disk.Ghosts D) (v : SpoolView D) (ledger : LedgerView) : Type 0 where
+  pub count : count_of v ≡ stood_count ledger
+  pub sizes : HasSizes members v ledger.stood.sizes
+  pub some : All IsSome ledger.stood.sizes
+
+-- so it has, and what is kept is sound: so it is between two steps, whatever its disk tells
+pub record IsReady {D : Type 0} (members : disk.Ghosts D) (v : SpoolView D) (node : Node OwnView Kind) : Type 0 where
+  pub counted : IsCounted members v node.own.ledger
   pub sound : IsSoundOwn node.own
 
 -- ---- system bytes
@@ -111,6 +124,12 @@ StopsAt s input now node out stop.DiskFailed = ⊥
 StopsAt s input now node out stop.NoMemory = Unit {0}
 
 -- ---- the works
+
+-- they fit the disk's list: a drop frees the slots of its message, and they come to the list as it is decided
+pub record WorksFit (ledger : LedgerView) : Type 0 where
+  pub sized : AreSizedBy ledger.stood.sizes ledger.works
+  pub come_to : counts_after (stood_count ledger) ledger.works ≡ stood_count (carried_out ledger)
+  pub leave : all_sizes_after ledger.stood.sizes ledger.works ≡ ledger.sizes
 
 abbrev pub settled_node : Node OwnView Kind → Node OwnView Kind
 settled_node node = record node { own = settled_own node.own }

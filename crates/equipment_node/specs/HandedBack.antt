@@ -13,10 +13,14 @@ abbrev pub StepHandsBack : {D : Type 0} → disk.Ghosts D → D → Result (Held
 StepHandsBack members old (Ok h) = IsKept members old h.spool.spool.disk
 StepHandsBack members old (Err end) = IsEnded members old end
 
+-- of a start that came to nothing
+abbrev pub UnstartedBack : {D : Type 0} → disk.Ghosts D → D → Starting D → Type 0
+UnstartedBack members old (starting.NoMemory spent) = IsKept members old spent.disk
+UnstartedBack members old (starting.NotSpool raw break) = IsKept members old raw.disk
+UnstartedBack members old (starting.DiskFailed spent) = HasFailed members old spent.disk
+UnstartedBack members old (starting.NumbersSpent spent) = IsKept members old spent.disk
+
 -- and of a start
 abbrev pub StartHandsBack : {D : Type 0} → disk.Ghosts D → D → Result (Held D) (Starting D) → Type 0
 StartHandsBack members old (Ok h) = IsKept members old h.spool.spool.disk
-StartHandsBack members old (Err (starting.NoMemory spent)) = IsKept members old spent.disk
-StartHandsBack members old (Err (starting.NotSpool raw break)) = IsKept members old raw.disk
-StartHandsBack members old (Err (starting.DiskFailed spent)) = HasFailed members old spent.disk
-StartHandsBack members old (Err (starting.NumbersSpent spent)) = IsKept members old spent.disk
+StartHandsBack members old (Err why) = UnstartedBack members old why

@@ -8,7 +8,7 @@ use Rattle.gem_spool.specs.declared.spool.GemSpool.{GemSpool}
 use Rattle.message_flow.specs.declared.step.StepOut.{StepOut}
 use Rattle.spool_file.specs.File.{SpoolFile, StandsFor, file_in, spool_break}
 use Rattle.spool_file.specs.Reading.{IsBreak}
-use Rattle.spool_slots.specs.Changes.{with_mark_moved}
+use Rattle.spool_slots.specs.Files.{upgraded, with_mark_moved}
 use Rattle.spool_slots.specs.Spool.{SpoolView, spool_code}
 use Rattle.spool_slots.specs.declared.states.Recovering.{Recovering}
 use Rattle.spool_slots.specs.declared.states.Recovering.TheVariants as recovering
@@ -69,9 +69,10 @@ pub record HasBegunOn
   pub in_state : All (λ byte. byte < 256) bytes → IsIn members h
   pub can_go : AllCanBeSent (file_in bytes).list → IsIn members h
 
--- the file with the old mark, or with the new one
+-- the file as it was, or of version 2, with the old mark, or with the new one
 abbrev pub HasMark : SpoolFile → List ℕ → Type 0
-HasMark file image = StandsFor image file ⊎ StandsFor image (with_mark_moved file)
+HasMark file image =
+    StandsFor image file ⊎ (StandsFor image (upgraded file) ⊎ StandsFor image (with_mark_moved (upgraded file)))
 
 -- nothing was written yet
 abbrev pub IsUntouched : Story → Story → Type 0
@@ -87,7 +88,7 @@ Begins members plan s out (Err (starting.NotSpool raw break)) =
 Begins members plan s out (Err (starting.NumbersSpent spent)) =
     IsEmpty out × (is_marked_out (file_in s.now.bytes).mark.value ≡ true)
     × ((t : Story) → members.told spent.disk ≡ Some t
-    → EachImage (λ image. StandsFor image (file_in s.now.bytes)) t.now)
+    → EachImage (λ image. StandsFor image (upgraded (file_in s.now.bytes))) t.now)
 Begins members plan s out (Err (starting.DiskFailed spent)) =
     IsEmpty out
     × ((t : Story) → members.told spent.disk ≡ Some t

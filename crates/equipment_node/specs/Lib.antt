@@ -6,7 +6,9 @@ pub mod HandedBack
 pub mod Held
 pub mod InMemory
 pub mod LeftAnew
+pub mod MadeReady
 pub mod SpentSteps
 pub mod StartCalls
 pub mod StartOver
+pub mod StartSizes
 pub mod Stepping

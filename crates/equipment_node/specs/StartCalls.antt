@@ -1,5 +1,6 @@
 -- Which calls of the disk a start makes (this profile).
-use Rattle.std.specs.Prelude.{◌≡◌, ◌≢◌, ◌⊎◌, ℕ, ◌+◌, ◌≤◌, List, [], ◌∷◌, ◌++◌, length, Option, None, Result, Ok, Err}
+use Rattle.std.specs.Prelude.{◌≡◌, ◌≢◌, ◌⊎◌, ℕ, ◌+◌, ◌≤◌, List, ◌∷◌, ◌++◌, length, sum_by, Option, None, Result, Ok}
+use Rattle.std.specs.Prelude.{Err}
 use Rattle.std.specs.List.{All}
 use Rattle.disk_base.specs.Calls.{DiskCall, Logs, sync_call}
 use Rattle.disk_base.specs.Faults.{IsLeftOut}
@@ -9,8 +10,8 @@ use Rattle.disk_base.specs.declared.disk.DiskAnswer.TheVariants.{Failed}
 use Rattle.gem_spool.specs.Updates.{syncs}
 use Rattle.gem_spool.specs.Standing.{Standing}
 use Rattle.spool_file.specs.File.{SpoolFile, file_in, spool_break}
-use Rattle.spool_file.specs.Reads.{recover_calls}
-use Rattle.spool_slots.specs.Changes.{most_reads}
+use Rattle.spool_file.specs.Reads.{most_reads, recover_calls}
+use Rattle.spool_file.specs.Slot.{width}
 use Rattle.equipment_node.specs.declared.equipment.Starting.{Starting}
 use Rattle.equipment_node.specs.declared.equipment.Starting.TheVariants as starting
 use Rattle.spool_works.specs.DiskCalls.{HasFailedIn, HasMade, disk_calls, with_calls}
@@ -18,28 +19,35 @@ use Rattle.spool_works.specs.DiskWorks.DiskWork.{Reserve}
 use Rattle.spool_works.specs.Found.{first_in}
 use Rattle.equipment_node.specs.DiskCalls.{disk_held}
 use Rattle.equipment_node.specs.Held.{Held}
+use Rattle.equipment_node.specs.MadeReady.{HasBegun, ready_calls}
 
 -- how a spool stands that a start finds in a file
 abbrev pub standing_found : SpoolFile → Standing
-standing_found file = record { next = first_in file + length file.list; file = file }
+standing_found file = record { next = first_in file + sum_by width file.list; file = file }
 
 -- the mark is moved on
 abbrev pub reserve_calls : SpoolFile → List DiskCall
 reserve_calls file = disk_calls (standing_found file) Reserve
 
--- the file is looked through before: a sync, a read of what is in front of its slots, and one of the start of each slot
+-- the file is looked through before: a sync, a read of what is in front of its slots, and those of the slots by its
+-- version; then its messages are looked at, and it is made one of version 2
+abbrev pub taking_calls : SpoolFile → List DiskCall
+taking_calls file = recover_calls file.version file.slots ++ ready_calls file
+
 abbrev pub start_calls : SpoolFile → List DiskCall
-start_calls file = recover_calls file.slots ++ reserve_calls file
+start_calls file = taking_calls file ++ reserve_calls file
 
 -- ---- over a spool in hand
 
--- the mark is moved on, unless it can't be
-abbrev pub StartMoves : {D : Type 0} → disk.Ghosts D → D → SpoolFile → Result (Held D) (Starting D) → Type 0
-StartMoves members old file (Ok h) = HasMade members old (disk_held h) (reserve_calls file)
-StartMoves members old file (Err (starting.NoMemory spent)) = HasMade members old spent.disk (reserve_calls file)
-StartMoves members old file (Err (starting.NumbersSpent spent)) = HasMade members old spent.disk []
-StartMoves members old file (Err (starting.DiskFailed spent)) = HasFailedIn members old spent.disk (reserve_calls file)
-StartMoves members old file (Err (starting.NotSpool raw break)) = ⊥
+-- behind some calls those are made that move the mark, unless it can't be moved
+abbrev pub StartMoves :
+    {D : Type 0} → disk.Ghosts D → D → (first moves : List DiskCall) → Result (Held D) (Starting D) → Type 0
+StartMoves members old first moves (Ok h) = HasMade members old (disk_held h) (first ++ moves)
+StartMoves members old first moves (Err (starting.NoMemory spent)) = HasBegun members old spent.disk (first ++ moves)
+StartMoves members old first moves (Err (starting.NumbersSpent spent)) = HasMade members old spent.disk first
+StartMoves members old first moves (Err (starting.DiskFailed spent)) =
+    HasFailedIn members old spent.disk (first ++ moves)
+StartMoves members old first moves (Err (starting.NotSpool raw break)) = ⊥
 
 -- ---- from a device
 
@@ -58,15 +66,15 @@ FailsOnTheWay members old new bytes =
     × (spool_break bytes ≢ None →
     Logs sync_call (IsLeftOut (members.health old) (members.health new) 0 0) (members.calls old) (members.calls new)
     Failed
-    ⊎ AreLooks (members.calls old) (members.calls new) (most_reads (members.size_is old)))
+    ⊎ AreLooks (members.calls old) (members.calls new) (most_reads (members.told old) (members.size_is old)))
 
 -- the disk's calls in a start over these bytes are these
 abbrev pub CallsInStart : {D : Type 0} → disk.Ghosts D → D → List ℕ → Result (Held D) (Starting D) → Type 0
 CallsInStart members old bytes (Ok h) = HasMade members old (disk_held h) (start_calls (file_in bytes))
 CallsInStart members old bytes (Err (starting.NoMemory spent)) =
-    HasMade members old spent.disk (start_calls (file_in bytes))
+    HasBegun members old spent.disk (start_calls (file_in bytes))
 CallsInStart members old bytes (Err (starting.NumbersSpent spent)) =
-    HasMade members old spent.disk (recover_calls (file_in bytes).slots)
+    HasMade members old spent.disk (taking_calls (file_in bytes))
 CallsInStart members old bytes (Err (starting.NotSpool raw break)) =
-    AreLooks (members.calls old) (members.calls raw.disk) (most_reads (members.size_is old))
+    AreLooks (members.calls old) (members.calls raw.disk) (most_reads (members.told old) (members.size_is old))
 CallsInStart members old bytes (Err (starting.DiskFailed spent)) = FailsOnTheWay members old spent.disk bytes

@@ -1,5 +1,5 @@
 -- What the code says of a step over the disk.
-use Rattle.std.specs.Prelude.{◌≡◌, ℕ, List, [], length, Option, Some, None, Result, Ok, Err}
+use Rattle.std.specs.Prelude.{◌≡◌, ℕ, List, [], map, Option, Some, None, Result, Ok, Err}
 use Rattle.disk_base.specs.Story.{Story}
 use Rattle.disk_base.specs.declared.disk.Disk as disk
 use Rattle.gem_spool.specs.declared.spool.GemSpool.{GemSpool}
@@ -7,6 +7,7 @@ use Rattle.gem_spool.specs.Standing.{Stands, standing_of}
 use Rattle.message_flow.specs.declared.step.StepOut.{StepOut}
 use Rattle.spool_file.specs.File.{SpoolFile}
 use Rattle.spool_file.specs.Format.{empty_file}
+use Rattle.spool_file.specs.Slot.{width}
 use Rattle.spool_slots.specs.Spool.{SpoolView}
 use Rattle.spool_slots.specs.declared.states.Spent.{Spent}
 use Rattle.trace_log.specs.declared.commands.ToolCommand.{ToolCommand}
@@ -44,8 +45,9 @@ pub record IsMade (s : EquipmentView) : Type 0 where
 pub record IsClear {D : Type 0} (members : disk.Ghosts D) (v : SpoolView D) (s : EquipmentView) : Type 0 where
   pub stands : Stands members v (standing_in s)
   pub owes : carried_out s.node.own.ledger ≡ s.node.own.ledger
-  pub len : length s.file.list ≡ length s.node.own.ledger.sizes
+  pub sizes_are : map width s.file.list ≡ s.node.own.ledger.sizes
   pub slots_are : s.file.slots ≡ s.node.own.ledger.slots
+  pub version_is : s.file.version ≡ 2
 
 pub record IsOn {D : Type 0} (members : disk.Ghosts D) (v : SpoolView D) (s : EquipmentView) : Type 0 where
   pub clear : IsClear members v s

@@ -4,8 +4,8 @@
 ghost use Rattle.std.specs.Prelude.{All, ◌≡◌, ◌≢◌, ◌∷◌, [], ◌<◌, ◌≤◌, ◌%◌, ◌^◌, ◌-◌, nat_le, length, List, ℕ, true};
 ghost use Rattle.std.specs.Prelude.{Err, IfOk, Some};
 ghost use Rattle.arrayvec.specs.ArrayVec.{array_vec_len};
-ghost use Rattle.gem_spool.specs.Standing.{Standing, Stands, count_in, count_of};
-ghost use Rattle.gem_spool.specs.Works.{AreDue, counts_after};
+ghost use Rattle.gem_spool.specs.Standing.{Standing, Stands, count_of};
+ghost use Rattle.gem_spool.specs.Works.{AreDue, AreSizedOn};
 ghost use Rattle.trace_log.specs.Log.{Happening};
 ghost use Rattle.trace_log.specs.declared.commands.ToolCommand.{ToolCommand};
 ghost use Rattle.trace_log.specs.Commands.{ToolCommandFits};
@@ -14,11 +14,13 @@ ghost use Rattle.message_end.specs.Core.{Step, step_in};
 ghost use Rattle.message_end.specs.Core.Went.{Goes};
 ghost use Rattle.message_end.specs.Ends.{Input, IsEmpty, MayTake, input_of, printed};
 ghost use Rattle.message_end.specs.Parts.{closes};
-ghost use Rattle.spool_ledger.specs.Ledger.{carried_out, stood_count};
+ghost use Rattle.spool_ledger.specs.Ledger.{carried_out};
+ghost use Rattle.spool_ledger.specs.Sizes.{oldest_of};
 ghost use Rattle.spool_ledger.specs.Unloading.{next_number as unload_number};
 ghost use Rattle.equipment_tables.specs.Tables.{most_transmitted};
-ghost use Rattle.equipment_node.specs.Amid.{Acts, Carries, DoesLast, EndsSo, HasOpened, IsAt, IsBegun, IsReady};
-ghost use Rattle.equipment_node.specs.Amid.{IsSendable, Opens, StopsAt, asked_node, opened, settled_node};
+ghost use Rattle.equipment_node.specs.Amid.{Acts, Carries, DoesLast, EndsSo, HasOpened, IsAt, IsBegun, IsCounted};
+ghost use Rattle.equipment_node.specs.Amid.{IsReady, IsSendable, Opens, StopsAt, WorksFit, asked_node, opened};
+ghost use Rattle.equipment_node.specs.Amid.{settled_node};
 ghost use Rattle.equipment_node.specs.Breaking.{BreaksBy};
 ghost use Rattle.tool_step.specs.Disk.{read_works, reserve_works, standing_in, works_behind};
 ghost use Rattle.spool_works.specs.DiskWorks.DiskWork.{ReadOldest};
@@ -39,7 +41,7 @@ use disk_base::Disk;
 use gem_spool::{GemSpool, Kept, Unread, Work};
 use message_end::Stop;
 use message_flow::{NodeInput, StepOut};
-use spool_file::BODY_MOST;
+use spool_file::body_most;
 use spool_works::Ended;
 use std::alloc::Global;
 use tool_core::{MORE, Spoolable, Tool, primary_function};
@@ -60,8 +62,8 @@ pub(crate) fn step_on<D: Disk>(
     requires now { now < 2 ^ 62 }
     requires input { MayTake ToolCommandFits (input_of input) }
     requires out { IsEmpty out.old }
-    requires ready { IsReady spool.spool (node_of tool.old) }
-    ensures ready { IfOk result (λ g. IsReady g.spool (node_of tool.new)) }
+    requires ready { IsReady D.Disk spool.spool (node_of tool.old) }
+    ensures ready { IfOk result (λ g. IsReady D.Disk g.spool (node_of tool.new)) }
     ensures steps { (s : EquipmentView) → node_of tool.old ≡ s.node → IsOn D.Disk spool.spool s
         → IsTold (D.told spool.spool.disk)
         → Steps D.Disk s (input_of input.entry) now (node_of tool.new) out.new result }
@@ -93,8 +95,8 @@ fn from_reserve<D: Disk>(
     requires now { now < 2 ^ 62 }
     requires input { MayTake ToolCommandFits (input_of input) }
     requires out { IsEmpty out.old }
-    requires ready { IsReady spool.spool (node_of tool.old) }
-    ensures ready { IfOk result (λ g. IsReady g.spool (node_of tool.new)) }
+    requires ready { IsReady D.Disk spool.spool (node_of tool.old) }
+    ensures ready { IfOk result (λ g. IsReady D.Disk g.spool (node_of tool.new)) }
     ensures acts { (s : EquipmentView) → node_of tool.old ≡ s.node → IsOn D.Disk spool.spool s
         → IsTold (D.told spool.spool.disk)
         → Acts D.Disk s (input_of input.entry) now (node_of tool.new) out.new result }
@@ -117,7 +119,7 @@ fn reserve<D: Disk>(
     spool: GemSpool<D>,
     out: &mut StepOut,
 ) -> Result<GemSpool<D>, Ended<D>>
-    requires ready { IsReady spool.spool (node_of tool.old) }
+    requires ready { IsReady D.Disk spool.spool (node_of tool.old) }
     ensures opens { (s : EquipmentView) → node_of tool.old ≡ s.node → IsOn D.Disk spool.spool s
         → IsTold (D.told spool.spool.disk) → Opens D.Disk s (node_of tool.new) result }
     ensures calls { (s : EquipmentView) → node_of tool.old ≡ s.node → IsOn D.Disk spool.spool s
@@ -127,7 +129,7 @@ fn reserve<D: Disk>(
         → IsTold (D.told spool.spool.disk) → out.old.notes ≡ []
         → BreaksBy D.Disk disk_in spool.spool.disk (losses_of s (standing_in s) [] (reserve_works s) [])
         out.new.notes result }
-    ensures ready { IfOk result (λ g. IsReady g.spool (node_of tool.new)) }
+    ensures ready { IfOk result (λ g. IsReady D.Disk g.spool (node_of tool.new)) }
     ensures notes { out.new.notes ≡ out.old.notes }
     ensures line { out.new.line.items ≡ out.old.line.items }
     ensures disk { HandsBack D.Disk spool.spool.disk result }
@@ -151,7 +153,7 @@ fn reserve_more<D: Disk>(
     spool: GemSpool<D>,
     out: &mut StepOut,
 ) -> Result<GemSpool<D>, Ended<D>>
-    requires ready { IsReady spool.spool (node_of tool.old) }
+    requires ready { IsReady D.Disk spool.spool (node_of tool.old) }
     ensures opens { (s : EquipmentView) → node_of tool.old ≡ s.node → needs_numbers s ≡ true
         → IsOn D.Disk spool.spool s → IsTold (D.told spool.spool.disk)
         → Opens D.Disk s (node_of tool.new) result }
@@ -162,7 +164,7 @@ fn reserve_more<D: Disk>(
         → IsOn D.Disk spool.spool s → IsTold (D.told spool.spool.disk) → out.old.notes ≡ []
         → BreaksBy D.Disk disk_in spool.spool.disk (losses_of s (standing_in s) [] (reserve_works s) [])
         out.new.notes result }
-    ensures ready { IfOk result (λ g. IsReady g.spool (node_of tool.new)) }
+    ensures ready { IfOk result (λ g. IsReady D.Disk g.spool (node_of tool.new)) }
     ensures notes { out.new.notes ≡ out.old.notes }
     ensures line { out.new.line.items ≡ out.old.line.items }
     ensures disk { HandsBack D.Disk spool.spool.disk result }
@@ -189,8 +191,8 @@ fn from_input<D: Disk>(
     requires now { now < 2 ^ 62 }
     requires input { MayTake ToolCommandFits (input_of input) }
     requires out { IsEmpty out.old }
-    requires ready { IsReady spool.spool (node_of tool.old) }
-    ensures ready { IfOk result (λ g. IsReady g.spool (node_of tool.new)) }
+    requires ready { IsReady D.Disk spool.spool (node_of tool.old) }
+    ensures ready { IfOk result (λ g. IsReady D.Disk g.spool (node_of tool.new)) }
     ensures acts { (s : EquipmentView) → HasOpened D.Disk s (node_of tool.old) spool
         → Acts D.Disk s (input_of input.entry) now (node_of tool.new) out.new result }
     ensures calls { (s : EquipmentView) → HasOpened D.Disk s (node_of tool.old) spool
@@ -219,9 +221,9 @@ fn from_works<D: Disk>(
     out: &mut StepOut,
 ) -> Result<GemSpool<D>, Ended<D>>
     requires now { now < 2 ^ 62 }
-    requires ready { IsReady spool.spool (node_of tool.old) }
+    requires ready { IsReady D.Disk spool.spool (node_of tool.old) }
     requires room { array_vec_len out.old.line ≤ 514 }
-    ensures ready { IfOk result (λ g. IsReady g.spool (node_of tool.new)) }
+    ensures ready { IfOk result (λ g. IsReady D.Disk g.spool (node_of tool.new)) }
     ensures acts { (s : EquipmentView) → (input : Input ToolCommand)
         → IsBegun s input now (node_of tool.old) out.old → HasOpened D.Disk s (opened s).node spool
         → Acts D.Disk s input now (node_of tool.new) out.new result }
@@ -252,7 +254,7 @@ fn end_early<D: Disk>(
     stop: Stop,
     out: &mut StepOut,
 ) -> Ended<D>
-    requires count { stop ≡ NumbersSpent → count_of spool.spool ≡ stood_count tool.old.own.ledger }
+    requires counted { stop ≡ NumbersSpent → IsCounted D.Disk spool.spool tool.old.own.ledger }
     ensures acts { (s : EquipmentView) → (input : Input ToolCommand) → (now : ℕ)
         → StopsAt s input now (node_of tool.old) out.old stop → HasOpened D.Disk s (opened s).node spool
         → Acts D.Disk s input now (node_of tool.new) out.new (Err result) }
@@ -288,7 +290,7 @@ fn stop_spent<D: Disk>(
     spool: GemSpool<D>,
     out: &mut StepOut,
 ) -> Ended<D>
-    requires count { count_of spool.spool ≡ stood_count tool.old.own.ledger }
+    requires counted { IsCounted D.Disk spool.spool tool.old.own.ledger }
     ensures acts { (s : EquipmentView) → (input : Input ToolCommand) → (now : ℕ)
         → StopsAt s input now (node_of tool.old) out.old NumbersSpent → HasOpened D.Disk s (opened s).node spool
         → Acts D.Disk s input now (node_of tool.new) out.new (Err result) }
@@ -318,11 +320,10 @@ fn carry_out<D: Disk>(
     spool: GemSpool<D>,
     out: &mut StepOut,
 ) -> Result<GemSpool<D>, Ended<D>>
-    requires count { count_of spool.spool ≡ stood_count tool.old.own.ledger }
+    requires counted { IsCounted D.Disk spool.spool tool.old.own.ledger }
     ensures works { Carries D.Disk spool tool.old.own.ledger.works out.old out.new result }
     ensures node { node_of tool.new ≡ settled_node (node_of tool.old) }
-    ensures come_to { counts_after (stood_count tool.old.own.ledger) tool.old.own.ledger.works
-        ≡ stood_count (carried_out tool.old.own.ledger) }
+    ensures fit { WorksFit tool.old.own.ledger }
     ensures line { out.new.line ≡ out.old.line }
 {
     let works = tool.own.ledger.take_works(alloc);
@@ -339,8 +340,9 @@ fn from_read<D: Disk>(
 ) -> Result<GemSpool<D>, Ended<D>>
     requires now { now < 2 ^ 62 }
     requires room { array_vec_len out.old.line ≤ 514 }
-    requires ready { IsReady spool.spool (node_of tool.old) }
-    ensures ready { IfOk result (λ g. IsReady g.spool (node_of tool.new)) }
+    requires ready { IsReady D.Disk spool.spool (node_of tool.old) }
+    requires owes { carried_out tool.old.own.ledger ≡ tool.old.own.ledger }
+    ensures ready { IfOk result (λ g. IsReady D.Disk g.spool (node_of tool.new)) }
     ensures ends { (t : Step EquipmentView Happening) → IsAt D.Disk t (node_of tool.old) out.old spool
         → EndsSo D.Disk now t (node_of tool.new) out.new result }
     ensures calls { (t : Step EquipmentView Happening) → IsAt D.Disk t (node_of tool.old) out.old spool
@@ -356,7 +358,7 @@ fn from_read<D: Disk>(
     }
 }
 
-// The oldest message is read, which is to be taken up under this number, and goes to the host.
+// The oldest message is read, slot by slot, which is to be taken up under this number, and goes to the host.
 fn end_reading<D: Disk>(
     tool: &mut Tool,
     alloc: Global,
@@ -367,22 +369,24 @@ fn end_reading<D: Disk>(
 ) -> Result<GemSpool<D>, Ended<D>>
     requires now { now < 2 ^ 62 }
     requires room { array_vec_len out.old.line ≤ 514 }
-    requires ready { IsReady spool.spool (node_of tool.old) }
-    ensures ready { IfOk result (λ g. IsReady g.spool (node_of tool.new)) }
+    requires ready { IsReady D.Disk spool.spool (node_of tool.old) }
+    requires owes { carried_out tool.old.own.ledger ≡ tool.old.own.ledger }
+    ensures ready { IfOk result (λ g. IsReady D.Disk g.spool (node_of tool.new)) }
     ensures ends { (t : Step EquipmentView Happening) → node_of tool.old ≡ asked_node t.next.node
         → unload_number (most_transmitted t.next.node.own.tables) t.next.node.own.ledger ≡ Some number
         → IsAt D.Disk t t.next.node out.old spool
         → EndsSo D.Disk now t (node_of tool.new) out.new result }
-    ensures calls { (st : Standing) → count_of spool.spool ≡ count_in st → 0 < length st.file.list
-        → HasCalled D.Disk disk_in spool.spool.disk st (ReadOldest ∷ []) result }
+    ensures calls { (st : Standing) → Stands D.Disk spool.spool st → 0 < length st.file.list
+        → HasCalled D.Disk disk_in spool.spool.disk st (ReadOldest (oldest_of tool.old.own.ledger.sizes) ∷ []) result }
     ensures breaks { (s : EquipmentView) → (st : Standing) → Stands D.Disk spool.spool st → 0 < length st.file.list
         → IsTold (D.told spool.spool.disk) → (front : List Happening) → out.old.notes ≡ printed front
-        → BreaksBy D.Disk disk_in spool.spool.disk (losses_of s st [] (ReadOldest ∷ []) front) out.new.notes
-        result }
+        → BreaksBy D.Disk disk_in spool.spool.disk
+        (losses_of s st [] (ReadOldest (oldest_of tool.old.own.ledger.sizes) ∷ []) front) out.new.notes result }
     ensures disk { HandsBack D.Disk spool.spool.disk result }
 {
     let mut spool = spool;
-    match spool.oldest_message(alloc) {
+    let slots = tool.own.ledger.oldest_size();
+    match spool.oldest_message(alloc, slots) {
         Ok(kept) => {
             let report = report_of(kept);
             end_with(tool, alloc, spool, Some((number, report)), now, out)
@@ -404,9 +408,9 @@ fn end_with<D: Disk>(
 ) -> Result<GemSpool<D>, Ended<D>>
     requires now { now < 2 ^ 62 }
     requires room { array_vec_len out.old.line ≤ 514 }
-    requires ready { IsReady spool.spool (node_of tool.old) }
+    requires ready { IsReady D.Disk spool.spool (node_of tool.old) }
     requires can { IsSendable oldest }
-    ensures ready { IfOk result (λ g. IsReady g.spool (node_of tool.new)) }
+    ensures ready { IfOk result (λ g. IsReady D.Disk g.spool (node_of tool.new)) }
     ensures ends { DoesLast
         D.Disk
         spool
@@ -433,6 +437,7 @@ fn carry_all<D: Disk>(
     out: &mut StepOut,
 ) -> Result<GemSpool<D>, Ended<D>>
     requires due { AreDue (count_of spool.spool) works.now }
+    requires sized { AreSizedOn D.Disk spool.spool works.now }
     ensures works { Carries D.Disk spool works.now out.old out.new result }
     ensures line { out.new.line ≡ out.old.line }
 {
@@ -448,7 +453,7 @@ fn carry_all<D: Disk>(
 // What was read, as a report that can be sent. A disk may give any bytes.
 fn report_of(kept: Kept) -> Spoolable
     ensures can { CanBeSent result }
-    ensures is { kept.stream < 128 → kept.function % 2 ≡ 1 → length kept.body ≤ 4081
+    ensures is { kept.stream < 128 → kept.function % 2 ≡ 1 → length kept.body ≤ 1048576
         → result ≡ record { stream = kept.stream; function = kept.function; body = kept.body } }
 {
     let Kept {
@@ -456,7 +461,7 @@ fn report_of(kept: Kept) -> Spoolable
         function,
         mut body,
     } = kept;
-    body.truncate(BODY_MOST as usize);
+    body.truncate(body_most(2) as usize);
     are_bytes(body.as_slice());
     Spoolable::of_kept(Kept {
         stream: stream % 128,

@@ -1,7 +1,8 @@
 //! The equipment over the disk of its spool.
 
-ghost use Rattle.std.specs.Prelude.{◌≡◌, ◌+◌, ◌≤◌, ◌<◌, ◌^◌, length, IfOk, Some};
+ghost use Rattle.std.specs.Prelude.{◌≡◌, ◌+◌, ◌≤◌, ◌<◌, ◌^◌, [], IfOk, Some};
 ghost use Rattle.line_end.specs.Step.{is_due};
+ghost use Rattle.disk_base.specs.MemDisk.{HasFitted};
 ghost use Rattle.disk_base.specs.Story.{Story};
 ghost use Rattle.gem_spool.specs.Standing.{standing_of};
 ghost use Rattle.spool_file.specs.File.{file_in};
@@ -15,22 +16,25 @@ ghost use Rattle.equipment_node.specs.Held.{Begins, FindsFile, IsIn, Moves, star
 ghost use Rattle.spool_ledger.specs.Ledger.{new_ledger};
 ghost use Rattle.tool_core.specs.Node.{node_of};
 ghost use Rattle.equipment_node.specs.SpentSteps.{IsSpentByCause, IsStartSpentByCause};
-ghost use Rattle.equipment_node.specs.StartCalls.{CallsInStart, StartMoves};
+ghost use Rattle.equipment_node.specs.MadeReady.{MakesReady, UpgradesOnce, ready_calls};
+ghost use Rattle.equipment_node.specs.StartCalls.{CallsInStart, StartMoves, reserve_calls};
 ghost use Rattle.equipment_node.specs.StartOver.{IsFresh, KeepsSure, StartsOver, StartsWith};
+ghost use Rattle.equipment_node.specs.StartSizes.{AreSizes};
 ghost use Rattle.equipment_node.specs.Stepping.{IsTold};
 ghost use Rattle.tool_step.specs.Losses.{losses};
 ghost use Rattle.tool_step.specs.Step.{deadline_of};
 
 use crate::disk_step::step_on;
+use crate::sizes::{Unsized, read_sizes};
 use disk_base::{Disk, MemDisk};
 use equipment_tables::EquipmentPlan;
 use gem_spool::GemSpool;
-use gl_base::NoMemory;
+use gl_base::{NoMemory, Row};
 use line_end::Phase;
 use message_flow::{NodeInput, StepOut};
 use spool_file::NotSpool;
 use spool_ledger::Ledger;
-use spool_slots::{Raw, Recovering, Spent};
+use spool_slots::{Raw, Recovering, Spent, Spool};
 use spool_works::Ended;
 use std::alloc::Global;
 use std::marker::Model;
@@ -57,27 +61,30 @@ impl<D: Disk> Model for Equipment<D> {
 
     ghost view = { λ inside. record { tool = inside.tool.value; spool = inside.spool } };
 
-    ghost invariant = { λ inside. IsReady inside.spool.spool (node_of inside.tool.value) };
+    ghost invariant = { λ inside. IsReady D.Disk inside.spool.spool (node_of inside.tool.value) };
 }
 
 /// Why an equipment didn't start. Its device is handed back.
 #[derive(Debug, Drop)]
 pub enum Starting<D> {
+    /// Memory was wanting for the sizes of its messages, two bytes each, or for the tool.
     NoMemory(Spent<D>),
     /// The device's bytes stand for no spool: the first place at which they break.
     NotSpool(Raw<D>, NotSpool),
+    /// A call of the disk failed.
     DiskFailed(Spent<D>),
     /// No system bytes are left.
     NumbersSpent(Spent<D>),
 }
 
 impl<D: Disk> Equipment<D> {
-    /// A start: the spool is taken up from its device, and system bytes are reserved there. The plan is copied where it
-    /// is kept, and must fit. The disk's calls are a sync, a read of what is in front of the slots, one of each slot,
-    /// and those five that move the mark, up to the first that fails. `NumbersSpent` comes where the mark of the file
-    /// can't move on, and nowhere else, and no start goes on there. Whether the disk tells its bytes or not, it is
-    /// handed back with its file, and counts a fault where the answer is `DiskFailed` and nowhere else. A disk of which
-    /// no call is to fail stays such.
+    /// A start: the spool is taken up from its device and made one of version 2, and system bytes are reserved there.
+    /// The plan is copied where it is kept, and must fit. The disk's calls are a sync, a read of what is in front of
+    /// the slots, those of the slots, a read of each message's first slot, the four of an upgrade where the file is of
+    /// version 1, and those five that move the mark, up to the first that fails. `NumbersSpent` comes where the mark of
+    /// the file can't move on, and nowhere else, and no start goes on there. Whether the disk tells its bytes or not,
+    /// it is handed back with its file, and counts a fault where the answer is `DiskFailed` and nowhere else. A disk of
+    /// which no call is to fail stays such.
     pub fn start(
         alloc: Global,
         plan: &EquipmentPlan,
@@ -97,7 +104,7 @@ impl<D: Disk> Equipment<D> {
     {
         let _ = now;
         match raw.recover() {
-            Ok(spool) => start_over(alloc, plan, GemSpool::new(spool), out),
+            Ok(spool) => start_over(alloc, plan, spool, out),
             Err(unknown) => Err(why_not(unknown)),
         }
     }
@@ -203,7 +210,8 @@ impl Equipment<MemDisk> {
 
     /// How many calls are left up to the one at which its disk is to stop, itself counted, 0 for none.
     pub(crate) fn stops_in(&self) -> u32
-        ensures { result ≡ self.now.spool.spool.disk.plan.stop_in }
+        ensures left { result ≡ self.now.spool.spool.disk.plan.stop_in }
+        ensures fitted { HasFitted self.now.spool.spool.disk }
     {
         self.spool.stops_in()
     }
@@ -219,18 +227,82 @@ fn why_not<D: Disk>(unknown: Recovering<D>) -> Starting<D>
     }
 }
 
-/// A start over a spool that was just taken up: system bytes are reserved.
+/// A start over a spool that was just taken up: it is made ready, and system bytes are reserved.
 pub(crate) fn start_over<D: Disk>(
     alloc: Global,
     plan: &EquipmentPlan,
-    spool: GemSpool<D>,
+    spool: Spool<D>,
     out: &mut StepOut,
 ) -> Result<Equipment<D>, Starting<D>>
     requires plan { EquipmentPlanFits plan.now }
     requires out { IsEmpty out.old }
-    ensures starts { IsFresh D.Disk spool → StartsOver D.Disk plan.now spool out.new result }
-    ensures calls { IsTold (D.told spool.spool.disk)
-        → StartMoves D.Disk spool.spool.disk (standing_of D.Disk spool.spool).file result }
+    ensures starts { IsFresh D.Disk spool
+        → StartsOver D.Disk plan.now (standing_of D.Disk spool).file out.new result }
+    ensures calls { IsFresh D.Disk spool → StartMoves
+        D.Disk
+        spool.disk
+        (ready_calls (standing_of D.Disk spool).file)
+        (reserve_calls (standing_of D.Disk spool).file)
+        result }
+    ensures disk { StartHandsBack D.Disk spool.disk result }
+    ensures keeps { IfOk result (λ h. KeepsSure D.Disk spool.disk h.spool.spool.disk) }
+{
+    match make_ready(alloc, spool) {
+        Ok((spool, sizes)) => start_ready(alloc, plan, spool, sizes.as_slice(), out),
+        Err(why) => Err(why),
+    }
+}
+
+// Reads how many slots each message takes, and makes a spool of version 1 one of version 2.
+fn make_ready<D: Disk>(
+    alloc: Global,
+    spool: Spool<D>,
+) -> Result<(GemSpool<D>, Row<u16>), Starting<D>>
+    ensures { MakesReady D.Disk spool result }
+{
+    // (that it stands as it says is told by the call that counts its messages)
+    let _ = spool.len();
+    let mut spool = spool;
+    let sizes = match read_sizes(alloc, &mut spool) {
+        Ok(sizes) => sizes,
+        Err(Unsized::Failed) => return Err(Starting::DiskFailed(spool.retire())),
+        Err(Unsized::NoMemory) => return Err(Starting::NoMemory(spool.retire())),
+    };
+    match upgrade(spool) {
+        Ok(spool) => Ok((GemSpool::new(spool), sizes)),
+        Err(spent) => Err(Starting::DiskFailed(spent)),
+    }
+}
+
+// Makes a spool one of version 2, where it isn't.
+fn upgrade<D: Disk>(spool: Spool<D>) -> Result<Spool<D>, Spent<D>>
+    ensures { UpgradesOnce D.Disk spool result }
+{
+    if spool.version() != 1 {
+        return Ok(spool);
+    }
+    match spool.upgrade() {
+        Ok(upgraded) => Ok(upgraded),
+        Err(spent) => Err(spent),
+    }
+}
+
+// A start over a spool that was made ready, of messages of these sizes.
+fn start_ready<D: Disk>(
+    alloc: Global,
+    plan: &EquipmentPlan,
+    spool: GemSpool<D>,
+    sizes: &[u16],
+    out: &mut StepOut,
+) -> Result<Equipment<D>, Starting<D>>
+    requires plan { EquipmentPlanFits plan.now }
+    requires out { IsEmpty out.old }
+    requires version { spool.spool.version ≡ 2 }
+    requires sizes { AreSizes D.Disk spool.spool sizes.now }
+    ensures starts { IsFresh D.Disk spool.spool
+        → StartsOver D.Disk plan.now (standing_of D.Disk spool.spool).file out.new result }
+    ensures calls { IsFresh D.Disk spool.spool
+        → StartMoves D.Disk spool.spool.disk [] (reserve_calls (standing_of D.Disk spool.spool).file) result }
     ensures disk { StartHandsBack D.Disk spool.spool.disk result }
     ensures keeps { IfOk result (λ h. KeepsSure D.Disk spool.spool.disk h.spool.spool.disk) }
 {
@@ -238,7 +310,7 @@ pub(crate) fn start_over<D: Disk>(
     let _ = spool.len();
     match spool.reserve() {
         Ok((spool, base)) => match base {
-            Some(base) => start_with(alloc, plan, spool, base, out),
+            Some(base) => start_with(alloc, plan, spool, sizes, base, out),
             None => Err(Starting::NumbersSpent(spool.retire())),
         },
         Err(spent) => Err(Starting::DiskFailed(spent)),
@@ -250,16 +322,18 @@ fn start_with<D: Disk>(
     alloc: Global,
     plan: &EquipmentPlan,
     spool: GemSpool<D>,
+    sizes: &[u16],
     base: u32,
     out: &mut StepOut,
 ) -> Result<Equipment<D>, Starting<D>>
     requires plan { EquipmentPlanFits plan.now }
     requires numbers { base + 4096 ≤ 2 ^ 32 }
-    requires even { spool.spool.next ≡ spool.spool.first + spool.spool.len }
-    ensures starts { StartsWith plan.now spool base out.old out.new result }
+    requires version { spool.spool.version ≡ 2 }
+    requires sizes { AreSizes D.Disk spool.spool sizes.now }
+    ensures starts { StartsWith plan.now spool sizes.now base out.old out.new result }
     ensures line { out.new.line ≡ out.old.line }
 {
-    let Ok(ledger) = ledger_of(alloc, &spool) else {
+    let Ok(ledger) = ledger_of(alloc, &spool, sizes) else {
         return Err(Starting::NoMemory(spool.retire()));
     };
     match Tool::start_on(alloc, plan, ledger, base, out) {
@@ -268,12 +342,11 @@ fn start_with<D: Disk>(
     }
 }
 
-// The ledger of a spool that was just taken up, in which each message takes one slot.
-fn ledger_of<D: Disk>(alloc: Global, spool: &GemSpool<D>) -> Result<Ledger, NoMemory>
-    ensures ledger { IfOk result (λ ledger.
-        ledger ≡ new_ledger spool.now.spool.slots spool.now.spool.first spool.now.spool.len) }
-    ensures len { IfOk result (λ ledger. length ledger.sizes ≡ spool.now.spool.len) }
+// The ledger of a spool that was just taken up, of messages of these sizes.
+fn ledger_of<D: Disk>(alloc: Global, spool: &GemSpool<D>, sizes: &[u16]) -> Result<Ledger, NoMemory>
+    requires sizes { AreSizes D.Disk spool.now.spool sizes.now }
+    ensures { IfOk result (λ ledger.
+        ledger ≡ new_ledger spool.now.spool.slots spool.now.spool.first sizes.now) }
 {
-    let count = spool.count();
-    Ledger::new(alloc, count.slots, spool.first(), count.len)
+    Ledger::new(alloc, spool.count().slots, spool.first(), sizes)
 }

@@ -1,7 +1,7 @@
 //! The equipment as an end of a world, where it may lose its power.
 
 ghost use Rattle.std.specs.Option.{option_map};
-ghost use Rattle.std.specs.Prelude.{◌≡◌, ◌<◌, ◌^◌, nat_le, IfSome, None, false, is_some, if◌then◌else◌};
+ghost use Rattle.std.specs.Prelude.{◌≡◌, ◌<◌, ◌^◌, IfSome, None, false, is_some};
 ghost use Rattle.disk_base.specs.Cut.{image_of};
 ghost use Rattle.disk_base.specs.Images.{IsImage};
 ghost use Rattle.disk_base.specs.MemDisk.{after_cut};
@@ -13,30 +13,32 @@ ghost use Rattle.tool_step.specs.End.{machine as equipment_machine};
 ghost use Rattle.tool_step.specs.Equipment.{act};
 ghost use Rattle.tool_step.specs.Losses.{losses};
 ghost use Rattle.equipment_node.specs.Held.{view_in};
-ghost use Rattle.equipment_node.specs.InMemory.{HasPower, IsStartable, IsLost, IsWhole, StartsAnew, anew_over, disk_of};
-ghost use Rattle.equipment_node.specs.InMemory.{left_behind, lost_by, planned_in, starts_over, state_in};
-ghost use Rattle.equipment_node.specs.InMemory.{stop_at_start, stop_told, with_stop};
-ghost use Rattle.equipment_node.specs.Stepping.{stop_by};
+ghost use Rattle.equipment_node.specs.InMemory.{FitsLeft, HasPower, IsStartable, IsLost, IsStopOf, IsWhole, StartsAnew};
+ghost use Rattle.equipment_node.specs.InMemory.{StopsBy, anew_over, disk_of, disk_reach, lost_by, reach_in};
+ghost use Rattle.equipment_node.specs.InMemory.{starts_over};
+ghost use Rattle.equipment_node.specs.InMemory.{state_in, stop_at_start};
 
 use crate::equipment::{Equipment, Starting, start_over};
-use disk_base::{CutChoice, Disk, MemDisk};
+use disk_base::{CutChoice, Disk, DiskAnswer, MemDisk};
 use equipment_tables::EquipmentPlan;
-use gem_spool::GemSpool;
 use line_end::Phase;
 use message_end::{End, Stop};
 use message_flow::{NodeInput, StepOut};
-use spool_slots::Raw;
+use spool_slots::{Raw, Spool};
 use spool_works::Ended;
 use std::alloc::Global;
 use tool_core::Planned;
 use trace_log::ToolCommand;
 
-/// For how many calls there is room in the list of a disk in memory: for 65,536, and for a few more, so that a disk
-/// lists the first call too many, at which it stops.
-pub const LISTED_CALLS: u32 = 65_536 + 16;
+/// For how many calls there is room in the list of a disk in memory since its file was made, or power was lost.
+pub const LISTED_CALLS: u32 = 65_536;
 
-/// And for how many bytes that they write: 64 MiB, and some more.
-pub const LISTED_BYTES: u64 = (64 << 20) + (16 << 10);
+/// And for how many bytes that they write.
+pub const LISTED_BYTES: u64 = 64 << 20;
+
+/// How many calls and bytes more find room where the disk is to stop, so that power can be lost at the first call for
+/// which there is no room.
+pub const LISTED_SPARE: (u32, u32) = (1, 16 << 10);
 
 /// The equipment over a disk in memory, as long as it has power, and what a start anew begins with. One that has
 /// stopped makes no step any more; where a planned call has stopped its disk it may start anew.
@@ -46,6 +48,8 @@ pub struct EquipmentEnd {
     going: Option<Equipment<MemDisk>>,
     // the disk that a planned call has stopped
     lost: Option<MemDisk>,
+    // the call that is planned while it has no power, of which nothing comes
+    unmet: u32,
 }
 
 impl End for EquipmentEnd {
@@ -53,12 +57,12 @@ impl End for EquipmentEnd {
 
     type Command = ToolCommand;
 
-    type Store = GemSpool<MemDisk>;
+    type Store = Spool<MemDisk>;
 
     ghost use Rattle.tool_step.specs.End.{machine};
     ghost use Rattle.tool_step.specs.Equipment.{EquipmentView, starts};
     ghost use Rattle.equipment_node.specs.LeftAnew.{settled_over};
-    ghost use Rattle.equipment_node.specs.InMemory.{Holds, IsWhole, anew_over, planned_in, state_in};
+    ghost use Rattle.equipment_node.specs.InMemory.{Holds, IsWhole, anew_over, reach_in, state_in};
     ghost use Rattle.tool_law.specs.Laws.{DidOf};
     ghost use Rattle.tool_law.proofs.LawfulLosses.{equipment_lawful};
     ghost use Rattle.std.specs.Prelude.{is_some};
@@ -81,7 +85,7 @@ impl End for EquipmentEnd {
 
     ghost loses = { Unit {0} };
 
-    ghost planned = { λ end. planned_in end.going };
+    ghost reach = { λ end. reach_in end.going end.unmet };
 
     ghost stopped = { λ end. is_some end.lost };
 
@@ -92,7 +96,7 @@ impl End for EquipmentEnd {
 
     ghost plan_of = { end_plan };
 
-    ghost start = { λ plan store. starts plan (standing_of ⟦<MemDisk as Disk>⟧ store.spool).file };
+    ghost start = { λ plan store. starts plan (standing_of ⟦<MemDisk as Disk>⟧ store).file };
 
     ghost machine = { machine };
 
@@ -100,13 +104,13 @@ impl End for EquipmentEnd {
 
     ghost due = { λ s. deadline_of s.node };
 
-    ghost lawful = { λ plan store fits holds. equipment_lawful plan (standing_of ⟦<MemDisk as Disk>⟧ store.spool).file
+    ghost lawful = { λ plan store fits holds. equipment_lawful plan (standing_of ⟦<MemDisk as Disk>⟧ store).file
         fits holds.can };
 
     fn start(
         alloc: Global,
         plan: &EquipmentPlan,
-        store: GemSpool<MemDisk>,
+        store: Spool<MemDisk>,
         out: &mut StepOut,
     ) -> Result<EquipmentEnd, Stop> {
         let Ok(kept) = plan.copy(alloc) else {
@@ -114,22 +118,24 @@ impl End for EquipmentEnd {
         };
         match start_over(alloc, plan, store, out) {
             Ok(equipment) => {
+                // (asked for nothing but what the list of its disk says)
+                let _ = equipment.stops_in();
                 Ok(EquipmentEnd {
                     plan: Planned::of(kept),
-                    going: Some(armed(equipment)),
+                    going: Some(equipment),
                     lost: None,
+                    unmet: 0,
                 })
             }
             Err(why) => Err(stop_at_start(&why)),
         }
     }
 
-    fn arm(&mut self, call: u32) -> bool {
+    fn arm(&mut self, call: u32) {
         self.lost = None;
         match &mut self.going {
-            Some(equipment) => arm_within(equipment, call),
-            // (it makes no call that could be the one)
-            None => call == 0,
+            Some(equipment) => equipment.arm(call),
+            None => self.unmet = call,
         }
     }
 
@@ -169,8 +175,8 @@ impl End for EquipmentEnd {
         ensures ends { EndsBy
             equipment_machine
             (losses (state_in ⟦<MemDisk as Disk>⟧ self.old.plan self.old.going) (input_of input.entry) now)
-            (planned_in self.old.going)
-            (planned_in self.new.going)
+            (reach_in self.old.going self.old.unmet)
+            (reach_in self.new.going self.new.unmet)
             (is_some self.new.lost)
             (λ choice now. anew_over ⟦<MemDisk as Disk>⟧ self.new.plan self.new.going self.new.lost choice now)
             out.new
@@ -181,6 +187,10 @@ impl End for EquipmentEnd {
             Some(equipment) => self.step_with(alloc, equipment, input, now, out),
             None => Err(Stop::NoMemory),
         }
+    }
+
+    fn has_stopped(&self) -> bool {
+        self.lost.is_some()
     }
 
     fn deadline(&self) -> Option<u64> {
@@ -238,8 +248,8 @@ impl EquipmentEnd {
         ensures ends { EndsBy
             equipment_machine
             (losses (view_in ⟦<MemDisk as Disk>⟧ equipment) (input_of input.entry) now)
-            equipment.spool.spool.disk.plan.stop_in
-            (planned_in self.new.going)
+            (disk_reach equipment.spool.spool.disk)
+            (reach_in self.new.going self.new.unmet)
             (is_some self.new.lost)
             (λ choice now. anew_over ⟦<MemDisk as Disk>⟧ self.new.plan self.new.going self.new.lost choice now)
             out.new
@@ -248,13 +258,15 @@ impl EquipmentEnd {
     {
         match equipment.step(alloc, input, now, out) {
             Ok(equipment) => {
+                // (asked for nothing but what the list of its disk says)
+                let _ = equipment.stops_in();
                 self.going = Some(equipment);
                 Ok(())
             }
             Err(ended) => {
-                let stop = stop_of(&ended);
-                self.lost = lost_in(ended);
-                Err(stop_as(stop, self.lost.is_some()))
+                let (lost, stop) = left_by(ended);
+                self.lost = lost;
+                Err(stop)
             }
         }
     }
@@ -276,6 +288,7 @@ impl EquipmentEnd {
             self.new.plan
             (starts_over self.old.plan (after_cut choice disk.now))
             self.new.going
+            self.new.unmet
             out.new
             result }
         ensures lost { self.new.lost ≡ None }
@@ -301,47 +314,21 @@ impl EquipmentEnd {
             self.new.plan
             (starts_over self.old.plan disk)
             self.new.going
+            self.new.unmet
             out.new
             result }
         ensures lost { self.new.lost ≡ self.old.lost }
     {
         match Equipment::start(alloc, self.plan.get(), Raw::new(disk), now, out) {
             Ok(equipment) => {
-                self.going = Some(armed(equipment));
+                // (asked for nothing but what the list of its disk says)
+                let _ = equipment.stops_in();
+                self.going = Some(equipment);
                 Ok(())
             }
             Err(why) => Err(stop_at_start(&why)),
         }
     }
-}
-
-// An equipment behind its start, the disk of which stops at the first call too many.
-fn armed(equipment: Equipment<MemDisk>) -> Equipment<MemDisk>
-    ensures { result ≡ with_stop (left_behind equipment.spool.spool.slots) equipment }
-{
-    let mut equipment = equipment;
-    let left = left_for(equipment.slots());
-    equipment.arm(left);
-    equipment
-}
-
-// How many calls are left to the disk of so many slots behind a start, up to the first one too many, itself counted.
-fn left_for(slots: u32) -> u32
-    ensures { result ≡ left_behind slots }
-{
-    65_530_u32.saturating_sub(slots)
-}
-
-// Plans the call where there is room for so many, and answers whether there is.
-fn arm_within(equipment: &mut Equipment<MemDisk>, call: u32) -> bool
-    ensures within { result ≡ nat_le call equipment.old.spool.spool.disk.plan.stop_in }
-    ensures equipment { equipment.new ≡ (if result then with_stop call equipment.old else equipment.old) }
-{
-    if call > equipment.stops_in() {
-        return false;
-    }
-    equipment.arm(call);
-    true
 }
 
 // The disk that there is.
@@ -357,49 +344,45 @@ fn disk_in(lost: Option<MemDisk>, going: Option<Equipment<MemDisk>>) -> Option<M
     }
 }
 
-// Its disk, where a planned call has stopped it, and not want of room. A crash leaves one of the images, whatever is
+// Its disk, where a planned call has stopped it, and why it stops. A crash leaves one of the images, whatever is
 // chosen.
-fn lost_in(ended: Ended<MemDisk>) -> Option<MemDisk>
-    ensures is { result ≡ lost_by ended }
-    ensures images { IfSome result (λ lost. (choice : CutChoice) →
+fn left_by(ended: Ended<MemDisk>) -> (Option<MemDisk>, Stop)
+    ensures lost { result.0 ≡ lost_by ended }
+    ensures stop { IsStopOf ended result.1 }
+    ensures fitted { FitsLeft ended }
+    ensures images { IfSome result.0 (λ lost. (choice : CutChoice) →
         IsImage lost.story.now (image_of choice lost.story)) }
 {
     match ended {
+        Ended::NoMemory(_) => (None, Stop::NoMemory),
+        Ended::NumbersSpent(spent) => {
+            // (asked for nothing but what its list says)
+            let _ = spent.into_disk().stopped();
+            (None, Stop::NumbersSpent)
+        }
         Ended::DiskFailed(spent) => {
             let disk = spent.into_disk();
-            if disk.stopped() { Some(disk) } else { None }
-        }
-        Ended::NoMemory(_) | Ended::NumbersSpent(_) => None,
-    }
-}
-
-// Why it stops, where a planned call has stopped its disk, or not.
-fn stop_as(stop: Stop, is_lost: bool) -> Stop
-    ensures { result ≡ stop_told is_lost stop }
-{
-    match stop {
-        Stop::NoMemory => Stop::NoMemory,
-        Stop::NumbersSpent => Stop::NumbersSpent,
-        Stop::Full => Stop::Full,
-        Stop::DiskFailed => {
-            if is_lost {
-                Stop::DiskFailed
+            if disk.stopped() {
+                (Some(disk), Stop::DiskFailed)
             } else {
-                // (the list of its calls has no memory for them)
-                Stop::NoMemory
+                (None, stop_at(&disk))
             }
         }
     }
 }
 
-// Why it has stopped.
-fn stop_of(ended: &Ended<MemDisk>) -> Stop
-    ensures { result ≡ stop_by ended.now }
+// Why it stops where no planned call has stopped its disk: that has no room for a call. It is want of memory where the
+// list of its calls has none for the call that is planned. (And where a call fails alone, which none does.)
+fn stop_at(disk: &MemDisk) -> Stop
+    ensures { StopsBy disk.now result }
 {
-    match ended {
-        Ended::NoMemory(_) => Stop::NoMemory,
-        Ended::DiskFailed(_) => Stop::DiskFailed,
-        Ended::NumbersSpent(_) => Stop::NumbersSpent,
+    let left = disk.stops_in();
+    if left == 1 {
+        return Stop::NoMemory;
+    }
+    match disk.last_answer() {
+        DiskAnswer::Failed => Stop::NoMemory,
+        DiskAnswer::Done => Stop::DiskFailed,
     }
 }
 

@@ -1,8 +1,9 @@
-use Rattle.std.proofs.Common.{ap, subst, sym, [], ◌∷◌, None, Some, is_some, Option, ℕ}
-use Rattle.std.specs.Prelude.{Err}
+use Rattle.std.proofs.Common.{ap, subst, sym, [], ◌∷◌, ℕ, None, Some, is_some, Option}
+use Rattle.std.specs.Prelude.{Ok, Err}
 use Rattle.gem_spool.specs.Oldest.{ReadsOldest}
 use Rattle.gem_spool.specs.declared.kept.Unread.{Unread}
-use Rattle.spool_slots.specs.Spool.{first_slot}
+use Rattle.gem_spool.specs.declared.kept.Unread.TheVariants as unread
+use Rattle.spool_slots.specs.Changes.{IsFirstSize}
 use Rattle.tool_step.specs.Disk.{standing_in}
 use Rattle.spool_works.specs.HandedBack.{HasFailed}
 use Rattle.message_end.specs.Parts.{closes}
@@ -13,9 +14,25 @@ use Rattle.tool_step.specs.Taking.{taking}
 use Rattle.equipment_node.proofs.HandingBack.{handed-then, kept-at, kept-then, last-back, looked-back, unlooked-back}
 use Rattle.equipment_node.proofs.LastParts.{last-done, no-list, none-there, read-at, read-there}
 use Rattle.equipment_node.proofs.OnDisk.{kept-of}
+use Rattle.equipment_node.proofs.Readying.{read-ready, same-ready}
+use Rattle.equipment_node.proofs.Sizing.{first-size}
 use Rattle.equipment_node.proofs.StepCalls.{look-called, looked-called, some-there, unread-called}
 use Rattle.equipment_node.proofs.StepBreaks.{look-breaks, looked-breaks}
 use Rattle.equipment_node.proofs.disk_step.end_reading.Goals as goal
+
+pub oldest_message-requires : goal.oldest_message-requires
+oldest_message-requires g c = record {
+  size = λ some.
+      subst (λ (slots : ℕ). IsFirstSize g.D.Disk c.args.spool.spool slots) (sym c.oldest_size-slots.ensures)
+      (first-size g.D.Disk c.args.spool.spool c.args.tool.now.own.ledger c.requires.ready.counted c.requires.owes some);
+}
+
+-- ---- it was read
+
+pub end_with-requires-clause-ready : goal.end_with-requires-clause-ready
+end_with-requires-clause-ready g c =
+    read-ready g.D.Disk c.args.spool.spool c.oldest_message.new.self.spool _ _ (node_of c.args.tool.now)
+    c.requires.ready c.in-Ok.ensures.reads.0
 
 pub returns-in-Ok-clause-ends : goal.returns-in-Ok-clause-ends
 returns-in-Ok-clause-ends g c t asked some at =
@@ -25,14 +42,59 @@ returns-in-Ok-clause-ends g c t asked some at =
     (c.in-Ok.ensures.stands (standing_in t.next) at.clear.stands) c.in-Ok.ensures.reads.0.told)
     asked
     (read-there g.D.Disk t c.args.number c.args.spool.spool c.oldest_message.new.self.spool c.in-Ok.kept
-    c.report_of-report.result at.clear at.told some c.in-Ok.ensures.reads c.report_of-report.ensures.is)
+    c.report_of-report.result at.clear at.told some c.oldest_size-slots.result c.in-Ok.ensures.reads
+    c.report_of-report.ensures.is)
     c.end_with.result c.end_with.ensures.ends
+
+pub returns-in-Ok-clause-calls : goal.returns-in-Ok-clause-calls
+returns-in-Ok-clause-calls g c st stands some =
+    let reads =
+    subst
+    (λ (slots : ℕ). ReadsOldest g.D.Disk c.args.spool.spool c.oldest_message.new.self.spool slots (Ok c.in-Ok.kept))
+    c.oldest_size-slots.ensures c.in-Ok.ensures.reads in
+    looked-called g.D.Disk st c.args.spool.spool stands _ c.oldest_message.new.self
+    (taking (Some (c.args.number, c.report_of-report.result)) ∷ end_of_spooling ∷ offer c.args.now ∷ closes ∷ [])
+    (node_of c.args.tool.now) (node_of c.end_with.new.tool) c.args.out.now c.end_with.new.out c.end_with.result
+    reads.0 c.end_with.ensures.ends
+
+pub returns-in-Ok-clause-disk : goal.returns-in-Ok-clause-disk
+returns-in-Ok-clause-disk g c =
+    handed-then g.D.Disk c.args.spool.spool.disk c.oldest_message.new.self.spool.disk c.end_with.result
+    (looked-back g.D.Disk c.args.spool.spool c.oldest_message.new.self.spool _ c.in-Ok.ensures.reads.0)
+    (last-back g.D.Disk c.oldest_message.new.self
+    (taking (Some (c.args.number, c.report_of-report.result)) ∷ end_of_spooling ∷ offer c.args.now ∷ closes ∷ [])
+    (node_of c.args.tool.now) (node_of c.end_with.new.tool) c.args.out.now c.end_with.new.out c.end_with.result
+    c.end_with.ensures.ends)
+
+pub returns-in-Ok-clause-breaks : goal.returns-in-Ok-clause-breaks
+returns-in-Ok-clause-breaks g c s st stands some told front noted =
+    let reads =
+    subst
+    (λ (slots : ℕ). ReadsOldest g.D.Disk c.args.spool.spool c.oldest_message.new.self.spool slots (Ok c.in-Ok.kept))
+    c.oldest_size-slots.ensures c.in-Ok.ensures.reads in
+    looked-breaks g.D.Disk s c.args.spool.spool c.oldest_message.new.self _ st front
+    (taking (Some (c.args.number, c.report_of-report.result)) ∷ end_of_spooling ∷ offer c.args.now ∷ closes ∷ [])
+    (node_of c.args.tool.now) (node_of c.end_with.new.tool) c.args.out.now c.end_with.new.out c.end_with.new.out.notes
+    c.end_with.result stands reads.0 c.end_with.ensures.ends
+
+-- ---- there is none
+
+pub end_with-requires-in-Err-Empty-clause-ready : goal.end_with-requires-in-Err-Empty-clause-ready
+end_with-requires-in-Err-Empty-clause-ready g c =
+    let reads =
+    subst
+    (λ (why : Unread).
+    ReadsOldest g.D.Disk c.args.spool.spool c.oldest_message.new.self.spool c.oldest_size-slots.result (Err why))
+    c.in-Err-Empty.field-0-is c.in-Err-Empty.ensures.reads in
+    same-ready g.D.Disk c.args.spool.spool c.oldest_message.new.self.spool (node_of c.args.tool.now) c.requires.ready
+    reads.0
 
 pub returns-in-Err-Empty-clause-ends : goal.returns-in-Err-Empty-clause-ends
 returns-in-Err-Empty-clause-ends g c t asked some at =
     let reads =
     subst
-    (λ (why : Unread). ReadsOldest g.D.Disk c.args.spool.spool c.oldest_message.new.self.spool (Err why))
+    (λ (why : Unread).
+    ReadsOldest g.D.Disk c.args.spool.spool c.oldest_message.new.self.spool c.oldest_size-slots.result (Err why))
     c.in-Err-Empty.field-0-is c.in-Err-Empty.ensures.reads in
     last-done g.D.Disk c.args.now t (node_of c.args.tool.now) (node_of c.end_with-in-Err-Empty.new.tool) c.args.out.now
     c.end_with-in-Err-Empty.new.out c.oldest_message.new.self None
@@ -43,6 +105,39 @@ returns-in-Err-Empty-clause-ends g c t asked some at =
     (none-there g.D.Disk t c.args.number some (no-list g.D.Disk t c.args.spool.spool at.clear reads.1))
     c.end_with-in-Err-Empty.result c.end_with-in-Err-Empty.ensures.ends
 
+pub returns-in-Err-Empty-clause-calls : goal.returns-in-Err-Empty-clause-calls
+returns-in-Err-Empty-clause-calls g c st stands some =
+    let reads =
+    subst
+    (λ (why : Unread).
+    ReadsOldest g.D.Disk c.args.spool.spool c.oldest_message.new.self.spool c.oldest_size-slots.result (Err why))
+    c.in-Err-Empty.field-0-is c.in-Err-Empty.ensures.reads in
+    absurd (some-there g.D.Disk st c.args.spool.spool stands reads.1 some)
+
+pub returns-in-Err-Empty-clause-disk : goal.returns-in-Err-Empty-clause-disk
+returns-in-Err-Empty-clause-disk g c =
+    let reads =
+    subst
+    (λ (why : Unread).
+    ReadsOldest g.D.Disk c.args.spool.spool c.oldest_message.new.self.spool c.oldest_size-slots.result (Err why))
+    c.in-Err-Empty.field-0-is c.in-Err-Empty.ensures.reads in
+    handed-then g.D.Disk c.args.spool.spool.disk c.oldest_message.new.self.spool.disk c.end_with-in-Err-Empty.result
+    (kept-at g.D.Disk c.args.spool.spool.disk c.oldest_message.new.self.spool.disk (ap (λ v. v.disk) reads.0))
+    (last-back g.D.Disk c.oldest_message.new.self (taking None ∷ end_of_spooling ∷ offer c.args.now ∷ closes ∷ [])
+    (node_of c.args.tool.now) (node_of c.end_with-in-Err-Empty.new.tool) c.args.out.now
+    c.end_with-in-Err-Empty.new.out c.end_with-in-Err-Empty.result c.end_with-in-Err-Empty.ensures.ends)
+
+pub returns-in-Err-Empty-clause-breaks : goal.returns-in-Err-Empty-clause-breaks
+returns-in-Err-Empty-clause-breaks g c s st stands some told front noted =
+    let reads =
+    subst
+    (λ (why : Unread).
+    ReadsOldest g.D.Disk c.args.spool.spool c.oldest_message.new.self.spool c.oldest_size-slots.result (Err why))
+    c.in-Err-Empty.field-0-is c.in-Err-Empty.ensures.reads in
+    absurd (some-there g.D.Disk st c.args.spool.spool stands reads.1 some)
+
+-- ---- the disk failed
+
 pub returns-in-Err-Failed-clause-ends : goal.returns-in-Err-Failed-clause-ends
 returns-in-Err-Failed-clause-ends g c t asked some at = (
   ap (λ (n : Option ℕ). is_some n) some,
@@ -51,111 +146,77 @@ returns-in-Err-Failed-clause-ends g c t asked some at = (
       (c.in-Err-Failed.ensures.stands (standing_in t.next) at.clear.stands),
 )
 
+pub returns-in-Err-Failed-clause-calls : goal.returns-in-Err-Failed-clause-calls
+returns-in-Err-Failed-clause-calls g c st stands some =
+    let reads =
+    subst
+    (λ (why : Unread).
+    ReadsOldest g.D.Disk c.args.spool.spool c.oldest_message.new.self.spool c.oldest_size-slots.result (Err why))
+    c.in-Err-Failed.field-0-is c.in-Err-Failed.ensures.reads in
+    look-called g.D.Disk st c.args.spool.spool stands _ c.oldest_message.new.self.spool c.retire.result
+    (subst
+    (λ (slots : ℕ).
+    ReadsOldest g.D.Disk c.args.spool.spool c.oldest_message.new.self.spool slots (Err unread.Failed))
+    c.oldest_size-slots.ensures reads).0
+    c.retire.ensures.disk
+
+pub returns-in-Err-Failed-clause-disk : goal.returns-in-Err-Failed-clause-disk
+returns-in-Err-Failed-clause-disk g c =
+    let reads =
+    subst
+    (λ (why : Unread).
+    ReadsOldest g.D.Disk c.args.spool.spool c.oldest_message.new.self.spool c.oldest_size-slots.result (Err why))
+    c.in-Err-Failed.field-0-is c.in-Err-Failed.ensures.reads in
+    subst (λ d. HasFailed g.D.Disk c.args.spool.spool.disk d) (sym c.retire.ensures.disk)
+    (unlooked-back g.D.Disk c.args.spool.spool c.oldest_message.new.self.spool _ reads.0)
+
+pub returns-in-Err-Failed-clause-breaks : goal.returns-in-Err-Failed-clause-breaks
+returns-in-Err-Failed-clause-breaks g c s st stands some told front noted =
+    let reads =
+    subst
+    (λ (why : Unread).
+    ReadsOldest g.D.Disk c.args.spool.spool c.oldest_message.new.self.spool c.oldest_size-slots.result (Err why))
+    c.in-Err-Failed.field-0-is c.in-Err-Failed.ensures.reads in
+    look-breaks g.D.Disk s c.args.spool.spool c.oldest_message.new.self.spool _ c.retire.result st front
+    c.args.out.now.notes stands told noted
+    (subst
+    (λ (slots : ℕ).
+    ReadsOldest g.D.Disk c.args.spool.spool c.oldest_message.new.self.spool slots (Err unread.Failed))
+    c.oldest_size-slots.ensures reads).0
+    c.retire.ensures.disk
+
+-- ---- memory ran out
+
 pub returns-in-Err-NoMemory-clause-ends : goal.returns-in-Err-NoMemory-clause-ends
 returns-in-Err-NoMemory-clause-ends g c t asked some at =
     kept-of g.D.Disk c.oldest_message.new.self.spool (standing_in t.next) c.retire-in-Err-NoMemory.result
     c.retire-in-Err-NoMemory.ensures.disk
     (c.in-Err-NoMemory.ensures.stands (standing_in t.next) at.clear.stands)
 
-pub returns-in-Ok-clause-calls : goal.returns-in-Ok-clause-calls
-returns-in-Ok-clause-calls g c st count some =
-    looked-called g.D.Disk st c.args.spool.spool count c.oldest_message.new.self
-    (taking (Some (c.args.number, c.report_of-report.result)) ∷ end_of_spooling ∷ offer c.args.now ∷ closes ∷ [])
-    (node_of c.args.tool.now) (node_of c.end_with.new.tool) c.args.out.now c.end_with.new.out c.end_with.result
-    c.in-Ok.ensures.reads.0 c.end_with.ensures.ends
-
-pub returns-in-Err-Empty-clause-calls : goal.returns-in-Err-Empty-clause-calls
-returns-in-Err-Empty-clause-calls g c st count some =
-    let reads =
-    subst
-    (λ (why : Unread). ReadsOldest g.D.Disk c.args.spool.spool c.oldest_message.new.self.spool (Err why))
-    c.in-Err-Empty.field-0-is c.in-Err-Empty.ensures.reads in
-    absurd (some-there g.D.Disk st c.args.spool.spool count reads.1 some)
-
-pub returns-in-Err-Failed-clause-calls : goal.returns-in-Err-Failed-clause-calls
-returns-in-Err-Failed-clause-calls g c st count some =
-    let reads =
-    subst
-    (λ (why : Unread). ReadsOldest g.D.Disk c.args.spool.spool c.oldest_message.new.self.spool (Err why))
-    c.in-Err-Failed.field-0-is c.in-Err-Failed.ensures.reads in
-    look-called g.D.Disk st c.args.spool.spool count c.oldest_message.new.self.spool c.retire.result reads.0
-    c.retire.ensures.disk
-
 pub returns-in-Err-NoMemory-clause-calls : goal.returns-in-Err-NoMemory-clause-calls
-returns-in-Err-NoMemory-clause-calls g c st count some =
+returns-in-Err-NoMemory-clause-calls g c st stands some =
     let reads =
     subst
-    (λ (why : Unread). ReadsOldest g.D.Disk c.args.spool.spool c.oldest_message.new.self.spool (Err why))
+    (λ (why : Unread).
+    ReadsOldest g.D.Disk c.args.spool.spool c.oldest_message.new.self.spool c.oldest_size-slots.result (Err why))
     c.in-Err-NoMemory.field-0-is c.in-Err-NoMemory.ensures.reads in
-    unread-called g.D.Disk st c.args.spool.spool count c.oldest_message.new.self.spool
-    c.retire-in-Err-NoMemory.result reads.0 c.retire-in-Err-NoMemory.ensures.disk
-
-pub returns-in-Ok-clause-disk : goal.returns-in-Ok-clause-disk
-returns-in-Ok-clause-disk g c =
-    handed-then g.D.Disk c.args.spool.spool.disk c.oldest_message.new.self.spool.disk c.end_with.result
-    (looked-back g.D.Disk c.args.spool.spool c.oldest_message.new.self.spool (first_slot c.args.spool.spool)
-    c.in-Ok.ensures.reads.0)
-    (last-back g.D.Disk c.oldest_message.new.self
-    (taking (Some (c.args.number, c.report_of-report.result)) ∷ end_of_spooling ∷ offer c.args.now ∷ closes ∷ [])
-    (node_of c.args.tool.now) (node_of c.end_with.new.tool) c.args.out.now c.end_with.new.out c.end_with.result
-    c.end_with.ensures.ends)
-
-pub returns-in-Err-Empty-clause-disk : goal.returns-in-Err-Empty-clause-disk
-returns-in-Err-Empty-clause-disk g c =
-    let reads =
-    subst
-    (λ (why : Unread). ReadsOldest g.D.Disk c.args.spool.spool c.oldest_message.new.self.spool (Err why))
-    c.in-Err-Empty.field-0-is c.in-Err-Empty.ensures.reads in
-    handed-then g.D.Disk c.args.spool.spool.disk c.oldest_message.new.self.spool.disk c.end_with-in-Err-Empty.result
-    (kept-at g.D.Disk c.args.spool.spool.disk c.oldest_message.new.self.spool.disk (ap (λ v. v.disk) reads.0))
-    (last-back g.D.Disk c.oldest_message.new.self (taking None ∷ end_of_spooling ∷ offer c.args.now ∷ closes ∷ [])
-    (node_of c.args.tool.now) (node_of c.end_with-in-Err-Empty.new.tool) c.args.out.now
-    c.end_with-in-Err-Empty.new.out c.end_with-in-Err-Empty.result c.end_with-in-Err-Empty.ensures.ends)
-
-pub returns-in-Err-Failed-clause-disk : goal.returns-in-Err-Failed-clause-disk
-returns-in-Err-Failed-clause-disk g c =
-    let reads =
-    subst
-    (λ (why : Unread). ReadsOldest g.D.Disk c.args.spool.spool c.oldest_message.new.self.spool (Err why))
-    c.in-Err-Failed.field-0-is c.in-Err-Failed.ensures.reads in
-    subst (λ d. HasFailed g.D.Disk c.args.spool.spool.disk d) (sym c.retire.ensures.disk)
-    (unlooked-back g.D.Disk c.args.spool.spool c.oldest_message.new.self.spool (first_slot c.args.spool.spool)
-    reads.0)
+    unread-called g.D.Disk st c.args.spool.spool stands _ c.oldest_message.new.self.spool
+    c.retire-in-Err-NoMemory.result
+    (subst
+    (λ (slots : ℕ).
+    ReadsOldest g.D.Disk c.args.spool.spool c.oldest_message.new.self.spool slots (Err unread.NoMemory))
+    c.oldest_size-slots.ensures reads).0
+    c.retire-in-Err-NoMemory.ensures.disk
 
 pub returns-in-Err-NoMemory-clause-disk : goal.returns-in-Err-NoMemory-clause-disk
 returns-in-Err-NoMemory-clause-disk g c =
     let reads =
     subst
-    (λ (why : Unread). ReadsOldest g.D.Disk c.args.spool.spool c.oldest_message.new.self.spool (Err why))
+    (λ (why : Unread).
+    ReadsOldest g.D.Disk c.args.spool.spool c.oldest_message.new.self.spool c.oldest_size-slots.result (Err why))
     c.in-Err-NoMemory.field-0-is c.in-Err-NoMemory.ensures.reads in
     kept-then g.D.Disk c.args.spool.spool.disk c.oldest_message.new.self.spool.disk
     c.retire-in-Err-NoMemory.result.disk
-    (looked-back g.D.Disk c.args.spool.spool c.oldest_message.new.self.spool (first_slot c.args.spool.spool) reads.0)
+    (looked-back g.D.Disk c.args.spool.spool c.oldest_message.new.self.spool _ reads.0.reads)
     (kept-at g.D.Disk c.oldest_message.new.self.spool.disk c.retire-in-Err-NoMemory.result.disk
     c.retire-in-Err-NoMemory.ensures.disk)
-
-pub returns-in-Ok-clause-breaks : goal.returns-in-Ok-clause-breaks
-returns-in-Ok-clause-breaks g c s st stands some told front noted =
-    looked-breaks g.D.Disk s c.args.spool.spool c.oldest_message.new.self
-    (first_slot c.args.spool.spool) st front
-    (taking (Some (c.args.number, c.report_of-report.result)) ∷ end_of_spooling ∷ offer c.args.now ∷ closes ∷ [])
-    (node_of c.args.tool.now) (node_of c.end_with.new.tool) c.args.out.now c.end_with.new.out c.end_with.new.out.notes
-    c.end_with.result c.in-Ok.ensures.reads.0 c.end_with.ensures.ends
-
-pub returns-in-Err-Empty-clause-breaks : goal.returns-in-Err-Empty-clause-breaks
-returns-in-Err-Empty-clause-breaks g c s st stands some told front noted =
-    let reads =
-    subst
-    (λ (why : Unread). ReadsOldest g.D.Disk c.args.spool.spool c.oldest_message.new.self.spool (Err why))
-    c.in-Err-Empty.field-0-is c.in-Err-Empty.ensures.reads in
-    absurd (some-there g.D.Disk st c.args.spool.spool stands.count reads.1 some)
-
-pub returns-in-Err-Failed-clause-breaks : goal.returns-in-Err-Failed-clause-breaks
-returns-in-Err-Failed-clause-breaks g c s st stands some told front noted goes =
-    let reads =
-    subst
-    (λ (why : Unread). ReadsOldest g.D.Disk c.args.spool.spool c.oldest_message.new.self.spool (Err why))
-    c.in-Err-Failed.field-0-is c.in-Err-Failed.ensures.reads in
-    look-breaks g.D.Disk s c.args.spool.spool
-    c.oldest_message.new.self.spool (first_slot c.args.spool.spool) c.retire.result st front c.args.out.now.notes stands
-    told noted reads.0 c.retire.ensures.disk goes

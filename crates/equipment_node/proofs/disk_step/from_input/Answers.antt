@@ -1,7 +1,7 @@
 use Rattle.std.proofs.Common.{refl}
 use Rattle.message_end.specs.Ends.{input_of}
 use Rattle.tool_core.specs.Node.{node_of}
-use Rattle.equipment_node.proofs.FirstParts.{begun-of, first-ready, spent-count, stops-of}
+use Rattle.equipment_node.proofs.FirstParts.{begun-of, first-ready, spent-counted, stops-of}
 use Rattle.equipment_node.proofs.HandingBack.{reached-not-failed}
 use Rattle.equipment_node.proofs.disk_step.from_input.Goals as goal
 
@@ -10,8 +10,8 @@ from_works-requires g c = record {
   now = c.requires.now;
   ready =
       first-ready (input_of c.args.input) c.args.now (node_of c.args.tool.now) (node_of c.do_first.new.self)
-      c.args.out.now c.do_first.new.out c.requires.out c.requires.ready.sound c.args.spool.spool c.requires.ready
-      c.in-Ok.ensures.does;
+      c.args.out.now c.do_first.new.out c.requires.out c.requires.ready.sound g.D.Disk c.args.spool.spool
+      c.requires.ready c.in-Ok.ensures.does;
   room = c.in-Ok.ensures.at_most;
 }
 
@@ -25,10 +25,10 @@ returns-in-Ok-clause-acts g c s begin =
 
 pub end_early-requires : goal.end_early-requires
 end_early-requires g c = record {
-  count = λ same.
-      spent-count (input_of c.args.input) c.args.now (node_of c.args.tool.now) (node_of c.do_first.new.self)
-      c.args.out.now c.do_first.new.out c.requires.out c.requires.ready.sound c.args.spool.spool c.requires.ready
-      c.in-Err.stop c.in-Err.ensures.does same;
+  counted = λ same.
+      spent-counted (input_of c.args.input) c.args.now (node_of c.args.tool.now) (node_of c.do_first.new.self)
+      c.args.out.now c.do_first.new.out c.requires.out c.requires.ready.sound g.D.Disk c.args.spool.spool
+      c.requires.ready c.in-Err.stop c.in-Err.ensures.does same;
 }
 
 pub returns-in-Err-clause-acts : goal.returns-in-Err-clause-acts

@@ -1,13 +1,17 @@
-use Rattle.std.proofs.Common.{[], ◌∷◌, None, Some}
+use Rattle.std.proofs.Common.{subst, ℕ, [], ◌∷◌, None, Some}
 use Rattle.tool_step.specs.Disk.{standing_in}
 use Rattle.message_end.specs.Parts.{closes}
 use Rattle.tool_core.specs.Node.{node_of}
 use Rattle.tool_step.specs.Spooling.{end_of_spooling}
 use Rattle.tool_step.specs.Step.{offer}
 use Rattle.tool_step.specs.Taking.{taking}
+use Rattle.tool_step.specs.Losses.{losses_of}
+use Rattle.spool_works.specs.DiskCalls.{HasCalled, disk_in}
+use Rattle.spool_works.specs.DiskWorks.DiskWork.{ReadOldest}
+use Rattle.equipment_node.specs.Breaking.{BreaksBy}
 use Rattle.equipment_node.proofs.HandingBack.{last-back}
-use Rattle.equipment_node.proofs.LastParts.{asked-is, last-done, none-asked, number-is, with-node}
-use Rattle.equipment_node.proofs.Readying.{asked-ready}
+use Rattle.equipment_node.proofs.LastParts.{asked-is, asked-oldest, last-done, none-asked, number-is, with-node}
+use Rattle.equipment_node.proofs.Readying.{asked-owes, asked-ready}
 use Rattle.equipment_node.proofs.StepCalls.{last-called, reads-by, some-asked}
 use Rattle.equipment_node.proofs.StepBreaks.{last-breaks, reads-breaks}
 use Rattle.equipment_node.proofs.disk_step.from_read.Goals as goal
@@ -17,8 +21,10 @@ end_reading-requires g c = record {
   now = c.requires.now;
   room = c.requires.room;
   ready =
-      asked-ready c.args.spool.spool (node_of c.args.tool.now) (node_of c.next_unload.new.self) c.requires.ready
-      c.in-Some.ensures.own;
+      asked-ready g.D.Disk c.args.spool.spool (node_of c.args.tool.now) (node_of c.next_unload.new.self)
+      c.requires.ready c.in-Some.ensures.own;
+  owes =
+      asked-owes (node_of c.args.tool.now) (node_of c.next_unload.new.self) c.requires.owes c.in-Some.ensures.own;
 }
 
 pub end_with-requires : goal.end_with-requires
@@ -26,8 +32,8 @@ end_with-requires g c = record {
   now = c.requires.now;
   room = c.requires.room;
   ready =
-      asked-ready c.args.spool.spool (node_of c.args.tool.now) (node_of c.next_unload.new.self) c.requires.ready
-      c.in-None.ensures.own;
+      asked-ready g.D.Disk c.args.spool.spool (node_of c.args.tool.now) (node_of c.next_unload.new.self)
+      c.requires.ready c.in-None.ensures.own;
   can = tt;
 }
 
@@ -53,8 +59,14 @@ pub returns-in-Some-clause-calls : goal.returns-in-Some-clause-calls
 returns-in-Some-clause-calls g c t at =
     let some = number-is (node_of c.args.tool.now) t at.node_is (Some c.in-Some.number) c.in-Some.ensures.number in
     reads-by g.D.Disk t c.args.spool.spool.disk c.end_reading.result (Some c.in-Some.number) some
-    (c.end_reading.ensures.calls (standing_in t.next) at.clear.stands.count
-    (some-asked g.D.Disk c.args.spool.spool t c.in-Some.number at.clear some))
+    (subst
+    (λ (slots : ℕ).
+    HasCalled g.D.Disk disk_in c.args.spool.spool.disk (standing_in t.next) (ReadOldest slots ∷ [])
+    c.end_reading.result)
+    (asked-oldest (node_of c.args.tool.now) (node_of c.next_unload.new.self) t at.node_is c.in-Some.ensures.own
+    c.in-Some.ensures.core)
+    (c.end_reading.ensures.calls (standing_in t.next) at.clear.stands
+    (some-asked g.D.Disk c.args.spool.spool t c.in-Some.number at.clear some)))
 
 pub returns-in-None-clause-calls : goal.returns-in-None-clause-calls
 returns-in-None-clause-calls g c t at =
@@ -78,8 +90,15 @@ returns-in-Some-clause-breaks g c t at s =
     let some = number-is (node_of c.args.tool.now) t at.node_is (Some c.in-Some.number) c.in-Some.ensures.number in
     reads-breaks g.D.Disk s t c.args.spool.spool.disk c.end_reading.new.out.notes c.end_reading.result
     (Some c.in-Some.number) some
+    (subst
+    (λ (slots : ℕ).
+    BreaksBy g.D.Disk disk_in c.args.spool.spool.disk
+    (losses_of s (standing_in t.next) [] (ReadOldest slots ∷ []) t.notes) c.end_reading.new.out.notes
+    c.end_reading.result)
+    (asked-oldest (node_of c.args.tool.now) (node_of c.next_unload.new.self) t at.node_is c.in-Some.ensures.own
+    c.in-Some.ensures.core)
     (c.end_reading.ensures.breaks s (standing_in t.next) at.clear.stands
-    (some-asked g.D.Disk c.args.spool.spool t c.in-Some.number at.clear some) at.told t.notes at.notes)
+    (some-asked g.D.Disk c.args.spool.spool t c.in-Some.number at.clear some) at.told t.notes at.notes))
 
 pub returns-in-None-clause-breaks : goal.returns-in-None-clause-breaks
 returns-in-None-clause-breaks g c t at s =

@@ -5,32 +5,33 @@ use Rattle.tool_core.specs.Node.{node_of}
 use Rattle.tool_step.specs.Equipment.{settled_step}
 use Rattle.equipment_node.proofs.HandingBack.{handed-then, works-back}
 use Rattle.equipment_node.proofs.OverDisk.{at-settled, carry-failed, ends-acts}
-use Rattle.equipment_node.proofs.Readying.{settled-ready}
+use Rattle.equipment_node.proofs.Readying.{settled-owes, settled-ready}
 use Rattle.equipment_node.proofs.StepCalls.{behind-called, behind-stops}
 use Rattle.equipment_node.proofs.StepBreaks.{behind-breaks, behind-broken}
 use Rattle.equipment_node.proofs.disk_step.from_works.Goals as goal
 
 pub carry_out-requires : goal.carry_out-requires
-carry_out-requires g c = record { count = c.requires.ready.count }
+carry_out-requires g c = record { counted = c.requires.ready.counted }
 
 pub from_read-requires : goal.from_read-requires
 from_read-requires g c = record {
   now = c.requires.now;
   room = subst (λ line. array_vec_len line ≤ 514) (sym c.in-Ok.ensures.line) c.requires.room;
   ready =
-      settled-ready c.args.spool.spool c.in-Ok.spool.spool (node_of c.args.tool.now) (node_of c.carry_out.new.tool)
-      c.requires.ready c.in-Ok.ensures.node c.in-Ok.ensures.works.0.count c.in-Ok.ensures.come_to;
+      settled-ready g.D.Disk c.args.spool c.in-Ok.spool (node_of c.args.tool.now) (node_of c.carry_out.new.tool)
+      c.requires.ready c.in-Ok.ensures.node c.in-Ok.ensures.fit c.in-Ok.ensures.works.0;
+  owes = settled-owes (node_of c.args.tool.now) (node_of c.carry_out.new.tool) c.in-Ok.ensures.node;
 }
 
 pub returns-in-Ok-clause-acts : goal.returns-in-Ok-clause-acts
 returns-in-Ok-clause-acts g c s input begun begin =
     ends-acts g.D.Disk s input c.args.now begin.went c.args.spool (node_of c.args.tool.now)
     (node_of c.from_read.new.tool) c.args.out.now c.from_read.new.out begun c.from_read.result begin.clear
-    c.requires.ready.count c.in-Ok.ensures.come_to
+    begin.told c.requires.ready.counted c.in-Ok.ensures.fit
     (c.from_read.ensures.ends (settled_step begun.step)
     (at-settled g.D.Disk s input c.args.now begin.went c.args.spool c.in-Ok.spool (node_of c.args.tool.now)
     (node_of c.carry_out.new.tool) c.args.out.now c.carry_out.new.out begun begin.clear begin.told
-    c.requires.ready.count c.in-Ok.ensures.come_to c.in-Ok.ensures.works.0 c.in-Ok.ensures.node
+    c.requires.ready.counted c.in-Ok.ensures.fit c.in-Ok.ensures.works.0 c.in-Ok.ensures.node
     c.in-Ok.ensures.works.1))
 
 pub returns-in-Err-clause-acts : goal.returns-in-Err-clause-acts
@@ -42,18 +43,19 @@ returns-in-Err-clause-acts g c s input begun begin =
 pub returns-in-Ok-clause-calls : goal.returns-in-Ok-clause-calls
 returns-in-Ok-clause-calls g c s input begun begin =
     behind-called g.D.Disk s input c.args.now c.args.spool begin.clear begin.told begin.went c.in-Ok.spool
-    (node_of c.args.tool.now) c.args.out.now begun c.from_read.result c.requires.ready.count c.in-Ok.ensures.come_to
+    (node_of c.args.tool.now) c.args.out.now begun c.from_read.result c.requires.ready.counted c.in-Ok.ensures.fit
     c.in-Ok.ensures.works.0
     (c.from_read.ensures.calls (settled_step begun.step)
     (at-settled g.D.Disk s input c.args.now begin.went c.args.spool c.in-Ok.spool (node_of c.args.tool.now)
     (node_of c.carry_out.new.tool) c.args.out.now c.carry_out.new.out begun begin.clear begin.told
-    c.requires.ready.count c.in-Ok.ensures.come_to c.in-Ok.ensures.works.0 c.in-Ok.ensures.node
+    c.requires.ready.counted c.in-Ok.ensures.fit c.in-Ok.ensures.works.0 c.in-Ok.ensures.node
     c.in-Ok.ensures.works.1))
 
 pub returns-in-Err-clause-calls : goal.returns-in-Err-clause-calls
 returns-in-Err-clause-calls g c s input begun begin =
     behind-stops g.D.Disk s input c.args.now c.args.spool begin.clear begin.told (node_of c.args.tool.now)
-    c.args.out.now c.carry_out.new.out begun c.in-Err.ended c.in-Err.ensures.works
+    c.args.out.now c.carry_out.new.out begun c.in-Err.ended c.requires.ready.counted c.in-Err.ensures.fit
+    c.in-Err.ensures.works
 
 pub returns-in-Ok-clause-disk : goal.returns-in-Ok-clause-disk
 returns-in-Ok-clause-disk g c =
@@ -70,14 +72,15 @@ returns-in-Ok-clause-breaks g c s input begun begin =
     let at =
     at-settled g.D.Disk s input c.args.now begin.went c.args.spool c.in-Ok.spool (node_of c.args.tool.now)
     (node_of c.carry_out.new.tool) c.args.out.now c.carry_out.new.out begun begin.clear begin.told
-    c.requires.ready.count c.in-Ok.ensures.come_to c.in-Ok.ensures.works.0 c.in-Ok.ensures.node c.in-Ok.ensures.works.1
+    c.requires.ready.counted c.in-Ok.ensures.fit c.in-Ok.ensures.works.0 c.in-Ok.ensures.node c.in-Ok.ensures.works.1
     in
     behind-breaks g.D.Disk s input c.args.now c.args.spool begin.clear begin.told
     begin.went c.in-Ok.spool (node_of c.args.tool.now) c.args.out.now begun c.from_read.new.out.notes c.from_read.result
-    c.requires.ready.count c.in-Ok.ensures.come_to c.in-Ok.ensures.works.0
+    c.requires.ready.counted c.in-Ok.ensures.fit c.in-Ok.ensures.works.0
     (c.from_read.ensures.breaks (settled_step begun.step) at s)
 
 pub returns-in-Err-clause-breaks : goal.returns-in-Err-clause-breaks
 returns-in-Err-clause-breaks g c s input begun begin =
     behind-broken g.D.Disk s input c.args.now c.args.spool begin.clear begin.told (node_of c.args.tool.now)
-    c.args.out.now c.carry_out.new.out begun c.in-Err.ended c.in-Err.ensures.works
+    c.args.out.now c.carry_out.new.out begun c.in-Err.ended c.requires.ready.counted c.in-Err.ensures.fit
+    c.in-Err.ensures.works

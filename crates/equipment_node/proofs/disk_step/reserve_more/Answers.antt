@@ -1,4 +1,4 @@
-use Rattle.std.proofs.Common.{refl, ap, subst, ◌∙◌, ◌+◌, ℕ, Option}
+use Rattle.std.proofs.Common.{refl, ap, subst, ◌∙◌, ℕ, Option}
 use Rattle.gem_spool.specs.Spool.{ReservesFrom}
 use Rattle.gem_spool.specs.Standing.{Stands}
 use Rattle.gem_spool.specs.Works.{standing_after_reserve}
@@ -11,7 +11,7 @@ use Rattle.tool_core.specs.Node.{node_of}
 use Rattle.tool_step.specs.Own.{OwnView}
 use Rattle.equipment_node.proofs.HandingBack.{kept-at, kept-then, reserved-back, unreserved-back}
 use Rattle.equipment_node.proofs.Opened.{at-last, mark-failed, marked-out, more-core, opened-more}
-use Rattle.equipment_node.proofs.Readying.{same-ready}
+use Rattle.equipment_node.proofs.Readying.{reserved-ready}
 use Rattle.equipment_node.proofs.StepCalls.{reserve-made, reserve-spent, reserve-stops}
 use Rattle.equipment_node.proofs.StepBreaks.{marked-out-breaks, reserve-breaks, reserved-breaks}
 use Rattle.equipment_node.proofs.disk_step.reserve_more.Goals as goal
@@ -39,8 +39,8 @@ returns-in-Ok-default-Some-clause-ready g c =
     subst
     (λ (b : Option ℕ). ReservesFrom g.D.Disk c.args.spool c.in-Ok-default-Some.spool b)
     c.in-Ok-default-Some.field-0-1-is c.in-Ok-default-Some.ensures.reserve in
-    same-ready c.args.spool.spool c.in-Ok-default-Some.spool.spool (c.args.spool.spool.mark + 4096)
-    (node_of c.args.tool.now) _ c.requires.ready refl made.0.2
+    reserved-ready g.D.Disk c.args.spool c.in-Ok-default-Some.spool _ (node_of c.args.tool.now) _ c.requires.ready refl
+    made c.in-Ok-default-Some.ensures.list
 
 pub returns-in-Ok-default-None-clause-opens : goal.returns-in-Ok-default-None-clause-opens
 returns-in-Ok-default-None-clause-opens g c s node_is needs on told =
@@ -98,7 +98,7 @@ returns-in-Ok-default-Some-clause-breaks g c s node_is needs on told noted =
     subst
     (λ (b : Option ℕ). ReservesFrom g.D.Disk c.args.spool c.in-Ok-default-Some.spool b)
     c.in-Ok-default-Some.field-0-1-is c.in-Ok-default-Some.ensures.reserve in
-    reserved-breaks g.D.Disk s c.args.spool needs on.clear c.in-Ok-default-Some.spool _ made
+    reserved-breaks g.D.Disk s c.args.spool needs on.clear told c.in-Ok-default-Some.spool _ made
 
 pub returns-in-Ok-default-None-clause-breaks : goal.returns-in-Ok-default-None-clause-breaks
 returns-in-Ok-default-None-clause-breaks g c s node_is needs on told noted =
@@ -106,10 +106,10 @@ returns-in-Ok-default-None-clause-breaks g c s node_is needs on told noted =
     subst
     (λ (b : Option ℕ). ReservesFrom g.D.Disk c.args.spool c.in-Ok-default-None.spool b)
     c.in-Ok-default-None.field-0-1-is c.in-Ok-default-None.ensures.reserve in
-    marked-out-breaks g.D.Disk s c.args.spool needs on.clear c.in-Ok-default-None.spool c.retire.result told
-    made c.retire.ensures.disk
+    marked-out-breaks g.D.Disk s c.args.spool needs on.clear told c.in-Ok-default-None.spool c.retire.result made
+    c.retire.ensures.disk
 
 pub returns-in-Err-clause-breaks : goal.returns-in-Err-clause-breaks
-returns-in-Err-clause-breaks g c s node_is needs on told noted goes =
+returns-in-Err-clause-breaks g c s node_is needs on told noted =
     reserve-breaks g.D.Disk s c.args.spool c.in-Err.spent c.args.out.now.notes needs on.clear told
-    c.in-Err.ensures.reserve noted goes
+    c.in-Err.ensures.reserve noted

@@ -12,7 +12,7 @@ pub returns-in-Ok-clause-acts : goal.returns-in-Ok-clause-acts
 returns-in-Ok-clause-acts g c s input now stops begin =
     spent-before g.D.Disk s input now begin.went c.args.spool c.in-Ok.spool (node_of c.args.tool.now)
     (node_of c.carry_out.new.tool) c.args.out.now c.carry_out.new.out c.retire.result stops begin.clear
-    c.requires.count c.in-Ok.ensures.come_to c.in-Ok.ensures.works.0 c.retire.ensures.disk
+    begin.told c.requires.counted c.in-Ok.ensures.fit c.in-Ok.ensures.works.0 c.retire.ensures.disk
     (ap (λ (out : StepOut). out.notes) c.in-Ok.ensures.works.1)
 
 pub returns-in-Err-clause-acts : goal.returns-in-Err-clause-acts
@@ -24,12 +24,14 @@ returns-in-Err-clause-acts g c s input now stops begin =
 pub returns-in-Ok-clause-calls : goal.returns-in-Ok-clause-calls
 returns-in-Ok-clause-calls g c s input now stops begin =
     spent-called g.D.Disk s input now c.args.spool begin.clear begin.told c.in-Ok.spool (node_of c.args.tool.now)
-    c.args.out.now stops c.retire.result c.in-Ok.ensures.works.0 c.retire.ensures.disk
+    c.args.out.now stops c.retire.result c.requires.counted c.in-Ok.ensures.fit c.in-Ok.ensures.works.0
+    c.retire.ensures.disk
 
 pub returns-in-Err-clause-calls : goal.returns-in-Err-clause-calls
 returns-in-Err-clause-calls g c s input now stops begin =
     spent-stops g.D.Disk s input now c.args.spool begin.clear begin.told (node_of c.args.tool.now) c.args.out.now
-    c.carry_out.new.out stops c.in-Err.ended c.in-Err.ensures.works
+    c.carry_out.new.out stops c.in-Err.ended c.requires.counted c.in-Err.ensures.fit
+    c.in-Err.ensures.works
 
 pub returns-in-Ok-clause-disk : goal.returns-in-Ok-clause-disk
 returns-in-Ok-clause-disk g c =
@@ -44,9 +46,11 @@ returns-in-Err-clause-disk g c =
 pub returns-in-Ok-clause-breaks : goal.returns-in-Ok-clause-breaks
 returns-in-Ok-clause-breaks g c s input now stops begin =
     spent-breaks g.D.Disk s input now c.args.spool begin.clear begin.told c.in-Ok.spool (node_of c.args.tool.now)
-    c.args.out.now stops c.carry_out.new.out.notes c.retire.result c.in-Ok.ensures.works.0 c.retire.ensures.disk
+    c.args.out.now stops c.carry_out.new.out.notes c.retire.result c.requires.counted c.in-Ok.ensures.fit
+    c.in-Ok.ensures.works.0 c.retire.ensures.disk
 
 pub returns-in-Err-clause-breaks : goal.returns-in-Err-clause-breaks
 returns-in-Err-clause-breaks g c s input now stops begin =
     spent-broken g.D.Disk s input now c.args.spool begin.clear begin.told (node_of c.args.tool.now)
-    c.args.out.now c.carry_out.new.out stops c.in-Err.ended c.in-Err.ensures.works
+    c.args.out.now c.carry_out.new.out stops c.in-Err.ended c.requires.counted c.in-Err.ensures.fit
+    c.in-Err.ensures.works

@@ -1,95 +1,56 @@
-use Rattle.std.proofs.Common.{◌+◌, ◌≤◌, ◌^◌, ℕ, sym, subst, Option}
-use Rattle.gem_spool.specs.Spool.{ReservesFrom}
-use Rattle.gem_spool.specs.Standing.{Stands, standing_of}
-use Rattle.gem_spool.specs.Works.{standing_after_reserve}
-use Rattle.equipment_node.proofs.Beginning.{none-left, start-failed, started}
-use Rattle.equipment_node.proofs.HandingBack.{kept-at, kept-then, reserved-back, seated-back, start-then}
-use Rattle.equipment_node.proofs.HandingBack.{unreserved-back}
-use Rattle.equipment_node.proofs.StartCalled.{mark-moved, mark-stays, move-stops}
-use Rattle.equipment_node.proofs.Standings.{start-sure}
+use Rattle.std.proofs.Common.{ℕ, List, ap, subst, sym}
+use Rattle.gem_spool.specs.Standing.{standing_of}
+use Rattle.spool_file.specs.File.{SpoolFile}
+use Rattle.spool_file.specs.declared.recovery.Known.{Known}
+use Rattle.equipment_node.specs.StartOver.{StartsOver}
+use Rattle.equipment_node.specs.StartSizes.{AreSizes}
+use Rattle.equipment_node.proofs.Beginning.{over-upgraded, unready-over}
+use Rattle.equipment_node.proofs.HandingBack.{start-then}
+use Rattle.equipment_node.proofs.MadeReady.{ready-sure}
+use Rattle.equipment_node.proofs.StartCalled.{ready-moves, unready-moves}
 use Rattle.equipment_node.proofs.equipment.start_over.Goals as goal
 
-pub start_with-requires : goal.start_with-requires
-start_with-requires g c =
-    let done =
-    subst (λ (b : Option ℕ). ReservesFrom g.D.Disk c.args.spool c.in-Ok.spool b) c.in-Some.is
-    c.in-Ok.ensures.reserve in
-    record {
-      plan = c.requires.plan;
-      numbers = subst (λ (n : ℕ). n + 4096 ≤ 2 ^ 32) (sym done.0.1) done.0.0.0;
-      even = (c.in-Ok.ensures.stands (standing_of g.D.Disk c.args.spool.spool) c.len.ensures.stands).even;
-    }
+pub start_ready-requires : goal.start_ready-requires
+start_ready-requires g c = record {
+  plan = c.requires.plan;
+  out = c.requires.out;
+  version = ap (λ (k : Known). k.version) c.in-Ok.ensures.known;
+  sizes =
+      subst (λ (sizes : List ℕ). AreSizes g.D.Disk c.in-Ok.spool.spool sizes) (sym c.as_slice.ensures)
+      c.in-Ok.ensures.sized;
+}
 
-pub returns-in-Some-clause-starts : goal.returns-in-Some-clause-starts
-returns-in-Some-clause-starts g c fresh =
-    started g.D.Disk c.args.plan.now c.args.spool fresh c.len.ensures.stands c.args.out.now c.start_with.new.out
-    c.requires.out c.in-Ok.spool c.in-Some.base
-    (subst (λ (b : Option ℕ). ReservesFrom g.D.Disk c.args.spool c.in-Ok.spool b) c.in-Some.is
-    c.in-Ok.ensures.reserve)
+pub returns-in-Ok-clause-starts : goal.returns-in-Ok-clause-starts
+returns-in-Ok-clause-starts g c fresh =
+    let ready = c.in-Ok.ensures in
+    over-upgraded g.D.Disk c.args.plan.now (standing_of g.D.Disk c.args.spool).file c.start_ready.new.out
+    c.start_ready.result
     (subst
-    (λ (b : Option ℕ).
-    Stands g.D.Disk c.in-Ok.spool.spool (standing_after_reserve b (standing_of g.D.Disk c.args.spool.spool)))
-    c.in-Some.is
-    (c.in-Ok.ensures.stands (standing_of g.D.Disk c.args.spool.spool) c.len.ensures.stands))
-    (λ s is. c.in-Ok.ensures.moments (standing_of g.D.Disk c.args.spool.spool) c.len.ensures.stands s is)
-    c.start_with.ensures.line c.start_with.result c.start_with.ensures.starts
+    (λ (f : SpoolFile). StartsOver g.D.Disk c.args.plan.now f c.start_ready.new.out c.start_ready.result)
+    (ready.file fresh) (c.start_ready.ensures.starts (ready.fresh fresh)))
 
-pub returns-in-None-clause-starts : goal.returns-in-None-clause-starts
-returns-in-None-clause-starts g c fresh =
-    none-left g.D.Disk c.args.plan.now c.args.spool fresh c.len.ensures.stands c.args.out.now c.args.out.now
-    c.requires.out c.in-Ok.spool c.retire.result
-    (subst (λ (b : Option ℕ). ReservesFrom g.D.Disk c.args.spool c.in-Ok.spool b) c.in-None.is
-    c.in-Ok.ensures.reserve)
-    c.retire.ensures.disk
+pub returns-in-Ok-clause-calls : goal.returns-in-Ok-clause-calls
+returns-in-Ok-clause-calls g c fresh =
+    ready-moves g.D.Disk c.args.spool _ _ c.in-Ok.ensures fresh c.start_ready.result
+    (c.start_ready.ensures.calls (c.in-Ok.ensures.fresh fresh))
+
+pub returns-in-Ok-clause-disk : goal.returns-in-Ok-clause-disk
+returns-in-Ok-clause-disk g c =
+    start-then g.D.Disk c.args.spool.disk _ c.start_ready.result c.in-Ok.ensures.kept c.start_ready.ensures.disk
+
+pub returns-in-Ok-clause-keeps : goal.returns-in-Ok-clause-keeps
+returns-in-Ok-clause-keeps g c =
+    ready-sure g.D.Disk c.args.spool _ _ c.in-Ok.ensures c.start_ready.result c.start_ready.ensures.keeps
 
 pub returns-in-Err-clause-starts : goal.returns-in-Err-clause-starts
 returns-in-Err-clause-starts g c fresh =
-    start-failed g.D.Disk c.args.plan.now c.args.spool fresh c.len.ensures.stands c.args.out.now c.args.out.now
-    c.requires.out c.in-Err.spent
-    (λ s is. c.in-Err.ensures.moments (standing_of g.D.Disk c.args.spool.spool) c.len.ensures.stands s is)
-
-pub returns-in-Some-clause-calls : goal.returns-in-Some-clause-calls
-returns-in-Some-clause-calls g c told =
-    mark-moved g.D.Disk c.args.spool (standing_of g.D.Disk c.args.spool.spool) c.len.ensures.stands told
-    c.args.plan.now c.in-Ok.spool c.in-Some.base c.in-Some.base c.args.out.now
-    c.start_with.new.out c.start_with.result
-    (subst (λ (b : Option ℕ). ReservesFrom g.D.Disk c.args.spool c.in-Ok.spool b) c.in-Some.is
-    c.in-Ok.ensures.reserve)
-    c.start_with.ensures.starts
-
-pub returns-in-None-clause-calls : goal.returns-in-None-clause-calls
-returns-in-None-clause-calls g c told =
-    mark-stays g.D.Disk c.args.spool (standing_of g.D.Disk c.args.spool.spool) c.len.ensures.stands told
-    c.in-Ok.spool c.retire.result
-    (subst (λ (b : Option ℕ). ReservesFrom g.D.Disk c.args.spool c.in-Ok.spool b) c.in-None.is
-    c.in-Ok.ensures.reserve)
-    c.retire.ensures.disk
+    unready-over g.D.Disk c.args.plan.now c.args.spool.disk (standing_of g.D.Disk c.args.spool).file c.args.out.now
+    c.requires.out c.in-Err.why (c.in-Err.ensures.1 fresh)
 
 pub returns-in-Err-clause-calls : goal.returns-in-Err-clause-calls
-returns-in-Err-clause-calls g c told =
-    move-stops g.D.Disk c.args.spool (standing_of g.D.Disk c.args.spool.spool) c.len.ensures.stands told
-    c.in-Err.spent c.in-Err.ensures.reserve
-
-pub returns-in-Some-clause-disk : goal.returns-in-Some-clause-disk
-returns-in-Some-clause-disk g c =
-    start-then g.D.Disk c.args.spool.spool.disk c.in-Ok.spool.spool.disk c.start_with.result
-    (reserved-back g.D.Disk c.args.spool c.in-Ok.spool _ c.in-Ok.ensures.reserve)
-    (seated-back g.D.Disk c.args.plan.now c.in-Ok.spool c.in-Some.base c.args.out.now c.start_with.new.out
-    c.start_with.result c.start_with.ensures.starts)
-
-pub returns-in-None-clause-disk : goal.returns-in-None-clause-disk
-returns-in-None-clause-disk g c =
-    kept-then g.D.Disk c.args.spool.spool.disk c.in-Ok.spool.spool.disk c.retire.result.disk
-    (reserved-back g.D.Disk c.args.spool c.in-Ok.spool _ c.in-Ok.ensures.reserve)
-    (kept-at g.D.Disk c.in-Ok.spool.spool.disk c.retire.result.disk c.retire.ensures.disk)
+returns-in-Err-clause-calls g c fresh =
+    unready-moves g.D.Disk c.args.spool.disk (standing_of g.D.Disk c.args.spool).file c.in-Err.why
+    (c.in-Err.ensures.1 fresh)
 
 pub returns-in-Err-clause-disk : goal.returns-in-Err-clause-disk
-returns-in-Err-clause-disk g c = unreserved-back g.D.Disk c.args.spool c.in-Err.spent c.in-Err.ensures.reserve
-
-pub returns-in-Some-clause-keeps : goal.returns-in-Some-clause-keeps
-returns-in-Some-clause-keeps g c =
-    start-sure g.D.Disk c.args.spool c.in-Ok.spool c.in-Some.base
-    (subst (λ (b : Option ℕ). ReservesFrom g.D.Disk c.args.spool c.in-Ok.spool b) c.in-Some.is
-    c.in-Ok.ensures.reserve)
-    c.args.plan.now c.in-Some.base c.args.out.now c.start_with.new.out c.start_with.result
-    c.start_with.ensures.starts
+returns-in-Err-clause-disk g c = c.in-Err.ensures.0

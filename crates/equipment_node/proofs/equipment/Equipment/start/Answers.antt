@@ -1,9 +1,9 @@
-use Rattle.std.proofs.Common.{ap, subst, sym}
+use Rattle.std.proofs.Common.{subst, sym}
 use Rattle.std.specs.Prelude.{Err}
 use Rattle.equipment_node.specs.HandedBack.{StartHandsBack}
 use Rattle.equipment_node.specs.Held.{Begins, FindsFile}
 use Rattle.equipment_node.specs.StartCalls.{CallsInStart}
-use Rattle.equipment_node.proofs.HandingBack.{kept-at, kept-then, start-then, taken-back, untaken-back}
+use Rattle.equipment_node.proofs.HandingBack.{start-then, taken-back, untaken-back}
 use Rattle.equipment_node.proofs.SpentMoves.{begun-by-cause}
 use Rattle.equipment_node.proofs.StartCalled.{looked-only, looked-through}
 use Rattle.equipment_node.proofs.TakenUp.{begun-over, found, is-fresh, not-found, not-taken, taken-sure}
@@ -11,16 +11,14 @@ use Rattle.equipment_node.proofs.equipment.Equipment.start.Goals as goal
 
 pub returns-in-Ok-clause-begins : goal.returns-in-Ok-clause-begins
 returns-in-Ok-clause-begins g c s told =
-    let same = ap (λ h. h.spool) c.new.ensures.made in
-    begun-over g.D.Disk c.args.raw.disk s told c.in-Ok.spool c.in-Ok.ensures c.new.result same c.args.plan.now
-    c.requires.plan c.start_over.new.out c.start_over.result
-    (c.start_over.ensures.starts
-    (is-fresh g.D.Disk c.args.raw.disk s told c.in-Ok.spool c.in-Ok.ensures c.new.result same))
+    begun-over g.D.Disk c.args.raw.disk s told c.in-Ok.spool c.in-Ok.ensures c.args.plan.now c.requires.plan
+    c.start_over.new.out c.start_over.result
+    (c.start_over.ensures.starts (is-fresh g.D.Disk c.args.raw.disk s told c.in-Ok.spool c.in-Ok.ensures))
 
 pub returns-in-Ok-clause-calls : goal.returns-in-Ok-clause-calls
 returns-in-Ok-clause-calls g c s told =
-    looked-through g.D.Disk c.args.raw.disk s told c.in-Ok.spool c.in-Ok.ensures c.new.result
-    (ap (λ h. h.spool) c.new.ensures.made) c.start_over.result c.start_over.ensures.calls
+    looked-through g.D.Disk c.args.raw.disk s told c.in-Ok.spool c.in-Ok.ensures c.start_over.result
+    (c.start_over.ensures.calls (is-fresh g.D.Disk c.args.raw.disk s told c.in-Ok.spool c.in-Ok.ensures))
 
 pub returns-in-Err-clause-begins : goal.returns-in-Err-clause-begins
 returns-in-Err-clause-begins g c s told =
@@ -45,11 +43,8 @@ returns-in-Err-clause-calls g c s told =
 
 pub returns-in-Ok-clause-disk : goal.returns-in-Ok-clause-disk
 returns-in-Ok-clause-disk g c =
-    start-then g.D.Disk c.args.raw.disk c.new.result.spool.disk c.start_over.result
-    (kept-then g.D.Disk c.args.raw.disk c.in-Ok.spool.disk c.new.result.spool.disk
-    (taken-back g.D.Disk c.args.raw.disk c.in-Ok.spool c.in-Ok.ensures)
-    (kept-at g.D.Disk c.in-Ok.spool.disk c.new.result.spool.disk (ap (λ h. h.spool.disk) c.new.ensures.made)))
-    c.start_over.ensures.disk
+    start-then g.D.Disk c.args.raw.disk c.in-Ok.spool.disk c.start_over.result
+    (taken-back g.D.Disk c.args.raw.disk c.in-Ok.spool c.in-Ok.ensures) c.start_over.ensures.disk
 
 pub returns-in-Err-clause-disk : goal.returns-in-Err-clause-disk
 returns-in-Err-clause-disk g c =
@@ -65,5 +60,4 @@ returns-in-Err-clause-finds g c s told =
 
 pub returns-in-Ok-clause-keeps : goal.returns-in-Ok-clause-keeps
 returns-in-Ok-clause-keeps g c =
-    taken-sure g.D.Disk c.args.raw.disk c.in-Ok.spool c.in-Ok.ensures c.new.result
-    (ap (λ h. h.spool) c.new.ensures.made) c.start_over.result c.start_over.ensures.keeps
+    taken-sure g.D.Disk c.args.raw.disk c.in-Ok.spool c.in-Ok.ensures c.start_over.result c.start_over.ensures.keeps

@@ -11,7 +11,8 @@ returns-in-Ok-clause-anew c lost =
     let new = c.take_up.new in
     subst
     (λ (d : DiskState).
-    StartsAnew ghosts new.self.plan (starts_over c.args.self.now.plan d) new.self.going new.out c.take_up.result)
+    StartsAnew ghosts new.self.plan (starts_over c.args.self.now.plan d) new.self.going new.self.unmet new.out
+    c.take_up.result)
     c.in-Ok.ensures.state
     (c.take_up.ensures.anew
     (subst IsStartable (sym c.in-Ok.ensures.state) (cut-startable c.args.disk.now lost c.args.choice)))
@@ -19,3 +20,4 @@ returns-in-Ok-clause-anew c lost =
 pub returns-in-Err-clause-anew : goal.returns-in-Err-clause-anew
 returns-in-Err-clause-anew c lost =
     not-anew c.args.self.now.plan _ c.args.self.now.going c.requires.gone c.args.out.now NoMemory c.requires.out.line tt
+    c.args.self.now.unmet

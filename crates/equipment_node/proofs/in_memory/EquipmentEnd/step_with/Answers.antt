@@ -1,12 +1,10 @@
-use Rattle.std.proofs.Common.{Bool, false, ap, subst, sym, ◌∙◌}
-use Rattle.std.specs.Prelude.{Err}
+use Rattle.std.proofs.Common.{refl}
 use Rattle.disk_base.specs.contracts.mem_disk.MemDiskDisk.TheImpl.{ghosts}
-use Rattle.message_end.specs.declared.end.Stop.{Stop}
-use Rattle.message_end.specs.Ends.{Leaves, input_of}
+use Rattle.message_end.specs.Ends.{input_of}
 use Rattle.tool_step.specs.Disk.{stops}
 use Rattle.tool_step.specs.Equipment.{act}
 use Rattle.equipment_node.specs.Held.{view_in}
-use Rattle.equipment_node.specs.InMemory.{planned_in, state_in, stop_told}
+use Rattle.equipment_node.specs.InMemory.{reach_in, state_in}
 use Rattle.tool_core.specs.Node.{node_of}
 use Rattle.equipment_node.proofs.Seated.{stops-by}
 use Rattle.equipment_node.proofs.StepEnds.{err-ends, err-whole, ok-ends, ok-whole, told-leaves}
@@ -21,34 +19,35 @@ returns-in-Err-clause-step c =
     let next = state_in ghosts c.args.self.now.plan c.args.self.now.going in
     let fronts = stops was (input_of c.args.input) c.args.now in
     let went = act was (input_of c.args.input) c.args.now in
-    subst (λ (e : Stop). Leaves fronts false went next c.step.new.out (Err e)) (sym c.stop_as.ensures)
-    (told-leaves fronts went next c.step.new.out _ c.stop_of-stop.result
-    (subst (λ (e : Stop). Leaves fronts false went next c.step.new.out (Err e)) (sym c.stop_of-stop.ensures)
+    told-leaves fronts went next c.step.new.out c.in-Err.ended c.left_by-lost.result.1 c.left_by-lost.ensures.stop
     (stops-by ghosts was (input_of c.args.input) c.args.now (node_of c.args.equipment.tool) next c.step.new.out
-    c.in-Err.ended (c.in-Err.ensures.moves c.requires.power.in_state))))
+    c.in-Err.ended (c.in-Err.ensures.moves c.requires.power.in_state))
 
 pub returns-in-Ok-clause-ends : goal.returns-in-Ok-clause-ends
 returns-in-Ok-clause-ends c =
     ok-ends c.args.self.now.plan c.args.equipment c.requires.power (input_of c.args.input) c.args.now c.step.new.out
     c.in-Ok.equipment (c.in-Ok.ensures.moves c.requires.power.in_state)
-    (c.in-Ok.ensures.breaks c.requires.power.in_state) c.args.self.now.lost c.requires.none
+    (c.in-Ok.ensures.breaks c.requires.power.in_state) c.stops_in.ensures.fitted c.args.self.now.lost c.requires.none
 
 pub returns-in-Ok-clause-sound : goal.returns-in-Ok-clause-sound
 returns-in-Ok-clause-sound c =
     ok-whole c.args.self.now.plan c.args.equipment c.requires.power (input_of c.args.input) c.args.now c.step.new.out
     c.in-Ok.equipment (c.in-Ok.ensures.moves c.requires.power.in_state)
-    (c.in-Ok.ensures.breaks c.requires.power.in_state) c.args.self.now.lost c.requires.none
+    (c.in-Ok.ensures.breaks c.requires.power.in_state) c.stops_in.ensures.fitted c.args.self.now.lost c.requires.none
 
 pub returns-in-Err-clause-ends : goal.returns-in-Err-clause-ends
 returns-in-Err-clause-ends c =
     err-ends c.args.self.now.plan c.args.equipment c.requires.power (input_of c.args.input) c.args.now c.step.new.out
-    c.in-Err.ended c.lost_in.result c.lost_in.ensures.is c.lost_in.ensures.images c.args.self.now.going
-    c.requires.gone (c.in-Err.ensures.breaks c.requires.power.in_state) (planned_in c.args.self.now.going)
-    c.stop_as.result c.stop_of-stop.result
-    (c.stop_as.ensures ∙ ap (λ (b : Bool). stop_told b c.stop_of-stop.result) c.is_some.ensures) c.stop_of-stop.ensures
+    c.in-Err.ended c.left_by-lost.result.0 c.left_by-lost.ensures.lost c.left_by-lost.ensures.images
+    c.args.self.now.going c.requires.gone (c.in-Err.ensures.breaks c.requires.power.in_state)
+    (c.in-Err.ensures.calls c.requires.power.in_state (c.args.equipment.spool.spool.disk.story, refl))
+    c.left_by-lost.ensures.fitted (reach_in c.args.self.now.going c.args.self.now.unmet) c.left_by-lost.result.1
+    c.left_by-lost.ensures.stop
 
 pub returns-in-Err-clause-sound : goal.returns-in-Err-clause-sound
 returns-in-Err-clause-sound c =
     err-whole c.args.self.now.plan c.args.equipment c.requires.power (input_of c.args.input) c.args.now c.step.new.out
-    c.in-Err.ended c.lost_in.result c.lost_in.ensures.is c.lost_in.ensures.images c.args.self.now.going
-    c.requires.gone (c.in-Err.ensures.breaks c.requires.power.in_state)
+    c.in-Err.ended c.left_by-lost.result.0 c.left_by-lost.ensures.lost c.left_by-lost.ensures.images
+    c.args.self.now.going c.requires.gone (c.in-Err.ensures.breaks c.requires.power.in_state)
+    (c.in-Err.ensures.calls c.requires.power.in_state (c.args.equipment.spool.spool.disk.story, refl))
+    c.left_by-lost.ensures.fitted

@@ -1,10 +1,9 @@
-use Rattle.std.proofs.Common.{ap, sym, subst, Some}
-use Rattle.std.specs.Prelude.{Ok, Err}
+use Rattle.std.proofs.Common.{ap, subst, Some}
+use Rattle.std.specs.Prelude.{Err}
 use Rattle.disk_base.specs.MemDisk.{DiskState}
 use Rattle.disk_base.specs.contracts.mem_disk.MemDiskDisk.TheImpl.{ghosts}
 use Rattle.equipment_tables.specs.declared.plan.EquipmentPlan.{EquipmentPlan}
-use Rattle.equipment_node.specs.Held.{Begins, HasBegunOn, Held}
-use Rattle.equipment_node.specs.InMemory.{StartsAnew, starts_over}
+use Rattle.equipment_node.specs.Held.{Begins, HasBegunOn}
 use Rattle.equipment_node.specs.StartCalls.{start_calls}
 use Rattle.equipment_node.specs.StartOver.{KeepsSure}
 use Rattle.spool_file.specs.File.{file_in}
@@ -17,10 +16,7 @@ returns-in-Ok-clause-anew c is =
     let plan = c.args.self.now.plan in
     let disk = c.args.disk in
     let told = ap (λ (d : DiskState). Some d.story) c.new.ensures in
-    subst
-    (λ (h : Held DiskState). StartsAnew ghosts plan (starts_over plan disk) (Some h) c.start.new.out (Ok tt))
-    (sym c.armed.ensures)
-    (anew-on plan disk is c.start.new.out c.in-Ok.equipment
+    anew-on plan disk is c.start.new.out c.in-Ok.equipment c.args.self.now.unmet
     (subst
     (λ (p : EquipmentPlan). HasBegunOn ghosts p disk.story.now.bytes c.start.new.out c.in-Ok.equipment)
     c.get.ensures.value (c.in-Ok.ensures.begins disk.story told))
@@ -30,7 +26,8 @@ returns-in-Ok-clause-anew c is =
     c.new.ensures (c.in-Ok.ensures.calls disk.story told))
     (subst
     (λ (d : DiskState). KeepsSure ghosts d c.in-Ok.equipment.spool.spool.disk)
-    c.new.ensures c.in-Ok.ensures.keeps))
+    c.new.ensures c.in-Ok.ensures.keeps)
+    c.stops_in.ensures.fitted
 
 pub returns-in-Err-clause-anew : goal.returns-in-Err-clause-anew
 returns-in-Err-clause-anew c is =
@@ -40,3 +37,4 @@ returns-in-Err-clause-anew c is =
     (subst (λ (p : EquipmentPlan). Begins ghosts p disk.story c.start.new.out (Err c.in-Err.why)) c.get.ensures.value
     (c.in-Err.ensures.begins disk.story told))
     c.args.self.now.going c.requires.gone c.stop_at_start.result c.stop_at_start.ensures
+    c.args.self.now.unmet

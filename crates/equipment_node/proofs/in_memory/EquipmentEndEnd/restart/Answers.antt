@@ -9,19 +9,19 @@ pub returns-in-Some-clause-start : goal.returns-in-Some-clause-start
 returns-in-Some-clause-start c =
     (restarted c.args.self.now.plan c.in-Some.disk c.args.choice c.args.now c.args.self.now.going _
     c.args.self.now.lost _ _ c.disk_in.ensures c.take-lost.ensures.value c.take-going.ensures.value c.in-Some.is
-    c.requires.sound _ _ _ _ c.start_from.ensures.anew).start
+    c.requires.sound _ _ _ _ _ c.start_from.ensures.anew).start
 
 pub returns-in-Some-clause-whole : goal.returns-in-Some-clause-whole
 returns-in-Some-clause-whole c =
     (restarted c.args.self.now.plan c.in-Some.disk c.args.choice c.args.now c.args.self.now.going _
     c.args.self.now.lost _ _ c.disk_in.ensures c.take-lost.ensures.value c.take-going.ensures.value c.in-Some.is
-    c.requires.sound _ _ _ _ c.start_from.ensures.anew).whole
+    c.requires.sound _ _ _ _ _ c.start_from.ensures.anew).whole
 
-pub returns-in-Some-clause-planned : goal.returns-in-Some-clause-planned
-returns-in-Some-clause-planned c =
+pub returns-in-Some-clause-reach : goal.returns-in-Some-clause-reach
+returns-in-Some-clause-reach c =
     (restarted c.args.self.now.plan c.in-Some.disk c.args.choice c.args.now c.args.self.now.going _
     c.args.self.now.lost _ _ c.disk_in.ensures c.take-lost.ensures.value c.take-going.ensures.value c.in-Some.is
-    c.requires.sound _ _ _ _ c.start_from.ensures.anew).planned
+    c.requires.sound _ _ _ _ _ c.start_from.ensures.anew).reach
 
 pub returns-in-Some-clause-sound : goal.returns-in-Some-clause-sound
 returns-in-Some-clause-sound c =
@@ -30,4 +30,4 @@ returns-in-Some-clause-sound c =
     (sym c.start_from.ensures.lost)
     (restarted c.args.self.now.plan c.in-Some.disk c.args.choice c.args.now c.args.self.now.going _
     c.args.self.now.lost _ _ c.disk_in.ensures c.take-lost.ensures.value c.take-going.ensures.value c.in-Some.is
-    c.requires.sound _ _ _ _ c.start_from.ensures.anew).sound
+    c.requires.sound _ _ _ _ _ c.start_from.ensures.anew).sound

@@ -6,7 +6,7 @@ use Rattle.tool_step.specs.Disk.{stops}
 use Rattle.tool_step.specs.End.{machine}
 use Rattle.tool_step.specs.Equipment.{act}
 use Rattle.equipment_node.specs.Held.{Held}
-use Rattle.equipment_node.specs.InMemory.{anew_over, planned_in, state_in}
+use Rattle.equipment_node.specs.InMemory.{anew_over, reach_in, state_in}
 use Rattle.tool_step.specs.Losses.{losses}
 use Rattle.equipment_node.proofs.in_memory.EquipmentEndEnd.step.Goals as goal
 
@@ -27,7 +27,7 @@ returns-in-Some-clause-ends c =
     let end = c.step_with.new.self in
     subst
     (λ (o : Option (Held DiskState)).
-    EndsBy machine (losses (state_in ghosts plan o) (input_of c.args.input) c.args.now) (planned_in o)
-    (planned_in end.going) (is_some end.lost)
+    EndsBy machine (losses (state_in ghosts plan o) (input_of c.args.input) c.args.now)
+    (reach_in o c.args.self.now.unmet) (reach_in end.going end.unmet) (is_some end.lost)
     (λ choice now. anew_over ghosts end.plan end.going end.lost choice now) c.step_with.new.out c.step_with.result)
     (sym (sym c.take.ensures.value ∙ c.in-Some.is)) c.step_with.ensures.ends
