@@ -6,7 +6,7 @@ use Rattle.line_way.specs.Kept.{without_power}
 use Rattle.line_way.specs.Ways.{Ways}
 use Rattle.message_end.specs.Core.{Step, Went as WentTo, step_in}
 use Rattle.message_end.specs.Core.Went.{Goes, Spent}
-use Rattle.message_end.specs.Ends.{Machine, calls_left}
+use Rattle.message_end.specs.Ends.{Machine, Reach, reach_behind}
 use Rattle.trace_log.specs.Log.{Happening}
 use Rattle.trace_log.specs.Log.Happening.{Power}
 use Rattle.trace_log.specs.Text.{text_of}
@@ -142,7 +142,7 @@ module _ {E H S T : Type 0} (e : KeptEnd E S ToolCommand) (h : KeptEnd H T HostC
   both-went P Q R JournalFull make one two = tt
   both-went P Q R NoMemory make one two = tt
 
-  module _ (was : World E H) (left : World S T) (ways : Ways) (planned : ℕ) where
+  module _ (was : World E H) (left : World S T) (ways : Ways) (reach : Reach) where
     -- of the equipment
     pub equipment_again :
         (tool : E) (old lines : List ℕ) (answer : WorldStep) → IsDark e h Equipment was left
@@ -150,21 +150,21 @@ module _ {E H S T : Type 0} (e : KeptEnd E S ToolCommand) (h : KeptEnd H T HostC
         → let went = e.anew was.equipment was.choice was.moment in
         Puts (gone went) (text_of (entries_of Equipment was.moment (Power ∷ (step_in went).notes))) old lines answer
         → IfWent answer (e.means tool ≡ (step_in went).next)
-        → IfWent answer (planned ≡ calls_left e.machine (e.means tool))
+        → IfWent answer (reach ≡ reach_behind (e.machine.anew_use (e.means tool)))
         → Makes e h (again e.machine h.machine Equipment left)
-        (record was { equipment = tool; ways = ways; left = planned; is_cut = None }) old lines answer
+        (record was { equipment = tool; ways = ways; reach = reach }) old lines answer
     equipment_again tool old lines answer dark emptied puts end plans =
         let went = e.anew was.equipment was.choice was.moment in
-        let now : World E H = record was { equipment = tool; ways = ways; left = planned; is_cut = None } in
+        let now : World E H = record was { equipment = tool; ways = ways; reach = reach } in
         again-comes Equipment left now went was.moment old lines answer dark.moment
         (dark.ends.0 was.moment ∙ ap (e.machine.restart left.equipment) dark.moment) puts
-        (both-went (e.means tool ≡ (step_in went).next) (planned ≡ calls_left e.machine (e.means tool))
+        (both-went (e.means tool ≡ (step_in went).next) (reach ≡ reach_behind (e.machine.anew_use (e.means tool)))
         (IsStarted Equipment left now went) answer
-        (λ same calls.
+        (λ same uses.
         same-world (see now)
         (with_started e.machine h.machine Equipment (step_in went).next (darkened Equipment left)) same
         dark.ends.1.end_is (emptied ∙ ap (without_power Equipment) dark.ways) dark.moment dark.steps dark.cut
-        (calls ∙ ap (calls_left e.machine) same) dark.ends.1.left_is refl dark.choice) end plans)
+        (uses ∙ ap (λ (s : S). reach_behind (e.machine.anew_use s)) same) dark.ends.1.reach_is dark.choice) end plans)
 
     -- of the host
     pub host_again :
@@ -173,17 +173,17 @@ module _ {E H S T : Type 0} (e : KeptEnd E S ToolCommand) (h : KeptEnd H T HostC
         → let went = h.anew was.host was.choice was.moment in
         Puts (gone went) (text_of (entries_of Host was.moment (Power ∷ (step_in went).notes))) old lines answer
         → IfWent answer (h.means other ≡ (step_in went).next)
-        → IfWent answer (planned ≡ calls_left h.machine (h.means other))
+        → IfWent answer (reach ≡ reach_behind (h.machine.anew_use (h.means other)))
         → Makes e h (again e.machine h.machine Host left)
-        (record was { host = other; ways = ways; host_left = planned; is_cut = None }) old lines answer
+        (record was { host = other; ways = ways; host_reach = reach }) old lines answer
     host_again other old lines answer dark emptied puts end plans =
         let went = h.anew was.host was.choice was.moment in
-        let now : World E H = record was { host = other; ways = ways; host_left = planned; is_cut = None } in
+        let now : World E H = record was { host = other; ways = ways; host_reach = reach } in
         again-comes Host left now went was.moment old lines answer dark.moment
         (dark.ends.0 was.moment ∙ ap (h.machine.restart left.host) dark.moment) puts
-        (both-went (h.means other ≡ (step_in went).next) (planned ≡ calls_left h.machine (h.means other))
+        (both-went (h.means other ≡ (step_in went).next) (reach ≡ reach_behind (h.machine.anew_use (h.means other)))
         (IsStarted Host left now went) answer
-        (λ same calls.
+        (λ same uses.
         same-world (see now) (with_started e.machine h.machine Host (step_in went).next (darkened Host left))
         dark.ends.1.end_is same (emptied ∙ ap (without_power Host) dark.ways) dark.moment dark.steps dark.cut
-        dark.ends.1.left_is (calls ∙ ap (calls_left h.machine) same) refl dark.choice) end plans)
+        dark.ends.1.reach_is (uses ∙ ap (λ (s : T). reach_behind (h.machine.anew_use s)) same) dark.choice) end plans)

@@ -1,5 +1,5 @@
 -- What one end notes in its steps and at its starts, and when, is what its own course brings.
-use Rattle.std.proofs.Common.{◌≡◌, ◌≢◌, refl, sym, ap, subst, ◌∙◌, ℕ, Bool, true, false, List, [], ◌∷◌, ◌++◌, Option, Some, None, if◌then◌else◌}
+use Rattle.std.proofs.Common.{◌≡◌, ◌≢◌, refl, sym, ap, subst, ◌∙◌, ℕ, Bool, true, false, List, [], ◌∷◌, ◌++◌, Option, Some, if◌then◌else◌}
 use Rattle.disk_base.specs.declared.cut.CutChoice.{CutChoice}
 use Rattle.gl_base.specs.declared.side.Side.{Side}
 use Rattle.gl_base.specs.declared.side.Side.TheVariants.{Equipment, Host}
@@ -10,7 +10,9 @@ use Rattle.message_end.specs.Core.Went.{Goes, Spent}
 use Rattle.message_end.specs.Course.{Course, Meeting, broken_at, course_of, filled_at, noted_behind, notes_of, went_on, with_meeting}
 use Rattle.message_end.specs.Course.Course.{Reached}
 use Rattle.message_end.specs.Course.Meeting.{Acts, Breaks, Fills, LosesPower, Restarts, Writes}
-use Rattle.message_end.specs.Ends.{Input, Loss, Machine, call_of, wrote}
+use Rattle.message_end.specs.Ends.{Input, Loss, Machine, Passing, Reach, call_of, passing, wrote}
+use Rattle.message_end.specs.Ends.Passing.{Cuts, Lacks, Passes}
+use Rattle.message_end.proofs.Passing.{cut-place, lack-place}
 use Rattle.message_end.proofs.Growing.{behind-both}
 use Rattle.trace_log.specs.Laws.{log_with}
 use Rattle.trace_log.specs.Log.{Entry, Happening}
@@ -18,7 +20,7 @@ use Rattle.trace_log.specs.Log.Entry.{Noted}
 use Rattle.trace_log.specs.Log.Happening.{Power}
 use Rattle.end_pair.specs.declared.answers.WorldStep.TheVariants as answer
 use Rattle.end_pair.specs.Noted.{AreTimesOf, IsBrokenThen, IsFilledThen, IsMetThen, TimedNotes, noted_by, timed_behind, timed_by}
-use Rattle.end_pair.specs.Steps.{Stepped, entries_of, made, made_by, slipped, slips, stepped, stopped_at}
+use Rattle.end_pair.specs.Steps.{Stepped, entries_of, made, made_by, slipped, slips, stepped, stopped_at, stopped_for}
 use Rattle.end_pair.specs.World.{met}
 use Rattle.end_pair.proofs.Causes.{early-powered, never-early, never-on}
 
@@ -168,12 +170,12 @@ module _ {S C : Type 0} (start : Step S Happening) (machine : Machine S C) (side
   }
 
   made-noted :
-      (now : ℕ) (choice : CutChoice) (input : Input C) (s : S) (ways : Ways) (log : List Entry) → IsReached s log
-      → HasNoted (made machine side now input s ways (machine.act s input now)) now choice log
-  made-noted now choice input s ways log at = go (machine.act s input now) refl
+      (now : ℕ) (left : Reach) (choice : CutChoice) (input : Input C) (s : S) (ways : Ways) (log : List Entry)
+      → IsReached s log → HasNoted (made machine side now left input s ways (machine.act s input now)) now choice log
+  made-noted now left choice input s ways log at = go (machine.act s input now) refl
     where
       go : (went : Went S Happening) → machine.act s input now ≡ went
-          → HasNoted (made machine side now input s ways went) now choice log
+          → HasNoted (made machine side now left input s ways went) now choice log
       go (Goes step) is = record {
         noted = λ other. reached-noted step.next (entries ++ log) there;
         on = λ on. there;
@@ -250,10 +252,10 @@ module _ {S C : Type 0} (start : Step S Happening) (machine : Machine S C) (side
 
   -- a disk stops it, which ends all or loses the power
   stopped-noted :
-      (now call : ℕ) (is_cut : Bool) (choice : CutChoice) (input : Input C) (s : S) (ways : Ways) (log : List Entry)
+      (now call : ℕ) (is_lost : Bool) (choice : CutChoice) (input : Input C) (s : S) (ways : Ways) (log : List Entry)
       (loss : Loss S) → call_of call (machine.losses s input now) ≡ Some loss → IsReached s log
-      → HasNoted (stopped_at machine side now call is_cut choice input s ways loss) now choice log
-  stopped-noted now call is_cut choice input s ways log loss lost at = record {
+      → HasNoted (stopped_at side now choice ways (stopped_for side is_lost) loss) now choice log
+  stopped-noted now call is_lost choice input s ways log loss lost at = record {
     noted = λ other. record {
       met = Fills input now call ∷ at.met;
       is =
@@ -275,7 +277,7 @@ module _ {S C : Type 0} (start : Step S Happening) (machine : Machine S C) (side
         ),
       );
     };
-    on = λ on. absurd (never-on side is_cut on);
+    on = λ on. absurd (never-on side is_lost on);
     broken = λ dark. record {
       s = s;
       notes = noted_by side log;
@@ -294,19 +296,24 @@ module _ {S C : Type 0} (start : Step S Happening) (machine : Machine S C) (side
   }
 
   pub step-noted :
-      (now call : ℕ) (is_cut : Bool) (choice : CutChoice) (input : Input C) (s : S) (ways : Ways) (log : List Entry)
-      → IsReached s log → HasNoted (stepped machine side now call is_cut choice input s ways) now choice log
-  step-noted now call is_cut choice input s ways log at = go (slips machine side now input s ways)
+      (now : ℕ) (reach : Reach) (choice : CutChoice) (input : Input C) (s : S) (ways : Ways) (log : List Entry)
+      → IsReached s log → HasNoted (stepped machine side now reach choice input s ways) now choice log
+  step-noted now reach choice input s ways log at = go (slips machine side now input s ways)
     where
-      by_lost : (lost : Option (Loss S)) → call_of call (machine.losses s input now) ≡ lost
-          → HasNoted (made_by machine side now call is_cut choice input s ways lost) now choice log
-      by_lost None is = made-noted now choice input s ways log at
-      by_lost (Some loss) is = stopped-noted now call is_cut choice input s ways log loss is at
+      by_passing : (passed : Passing S) → passing reach (machine.losses s input now) ≡ passed
+          → HasNoted (made_by machine side now choice input s ways passed) now choice log
+      by_passing (Passes left) is = made-noted now left choice input s ways log at
+      by_passing (Cuts loss) is =
+          let place = cut-place reach (machine.losses s input now) loss is in
+          stopped-noted now place.0 true choice input s ways log loss place.1 at
+      by_passing (Lacks loss) is =
+          let place = lack-place reach (machine.losses s input now) loss is in
+          stopped-noted now place.0 false choice input s ways log loss place.1 at
 
       go : (b : Bool)
           → HasNoted
-          (if b then slipped side now s ways
-          else made_by machine side now call is_cut choice input s ways (call_of call (machine.losses s input now)))
+          (if b then slipped side now reach s ways
+          else made_by machine side now choice input s ways (passing reach (machine.losses s input now)))
           now choice log
       go true =
           let noted = reached-noted s log at in
@@ -315,7 +322,7 @@ module _ {S C : Type 0} (start : Step S Happening) (machine : Machine S C) (side
             on = λ on. absurd (cc);
             broken = λ dark. absurd (cc);
           }
-      go false = by_lost (call_of call (machine.losses s input now)) refl
+      go false = by_passing (passing reach (machine.losses s input now)) refl
 
   -- it starts anew, without power: behind whole steps, or amid one
   pub record HasAgain (now : ℕ) (went : Went S Happening) (log : List Entry) : Type 0 where
@@ -419,26 +426,26 @@ stays-reached start machine side s one two same at = record {
 -- the entries of a step are its end's, or no end's
 pub other-entries :
     {S C : Type 0} (machine : Machine S C) (side other : Side) → is_same_side other side ≡ false
-    → (now call : ℕ) (is_cut : Bool) (choice : CutChoice) (input : Input C) (s : S) (ways : Ways) (log : List Entry)
-    → IsAsNoted other ((stepped machine side now call is_cut choice input s ways).entries ++ log) log
-other-entries {S} {C} machine side other apart now call is_cut choice input s ways log =
+    → (now : ℕ) (reach : Reach) (choice : CutChoice) (input : Input C) (s : S) (ways : Ways) (log : List Entry)
+    → IsAsNoted other ((stepped machine side now reach choice input s ways).entries ++ log) log
+other-entries {S} {C} machine side other apart now reach choice input s ways log =
     go (slips machine side now input s ways)
   where
-    by_went : (went : Went S Happening)
-        → IsAsNoted other ((made machine side now input s ways went).entries ++ log) log
-    by_went (Goes step) = behind-other now side other apart (step.notes ++ wrote step.written) log
-    by_went (Spent step) = behind-other now side other apart step.notes log
+    by_went : (left : Reach) (went : Went S Happening)
+        → IsAsNoted other ((made machine side now left input s ways went).entries ++ log) log
+    by_went left (Goes step) = behind-other now side other apart (step.notes ++ wrote step.written) log
+    by_went left (Spent step) = behind-other now side other apart step.notes log
 
-    by_lost : (lost : Option (Loss S))
-        → IsAsNoted other ((made_by machine side now call is_cut choice input s ways lost).entries ++ log) log
-    by_lost None = by_went (machine.act s input now)
-    by_lost (Some loss) = behind-other now side other apart loss.front log
+    by_passing : (passed : Passing S)
+        → IsAsNoted other ((made_by machine side now choice input s ways passed).entries ++ log) log
+    by_passing (Passes left) = by_went left (machine.act s input now)
+    by_passing (Cuts loss) = behind-other now side other apart loss.front log
+    by_passing (Lacks loss) = behind-other now side other apart loss.front log
 
     go : (b : Bool)
         → IsAsNoted other
-        ((if b then slipped side now s ways
-        else made_by machine side now call is_cut choice input s ways
-        (call_of call (machine.losses s input now))).entries
+        ((if b then slipped side now reach s ways
+        else made_by machine side now choice input s ways (passing reach (machine.losses s input now))).entries
         ++ log) log
     go true = record { noted = refl; timed = refl }
-    go false = by_lost (call_of call (machine.losses s input now))
+    go false = by_passing (passing reach (machine.losses s input now))

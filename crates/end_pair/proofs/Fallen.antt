@@ -30,7 +30,7 @@ use Rattle.message_end.proofs.Fronts.{noted-behind}
 use Rattle.trace_log.specs.Laws.{log_with}
 use Rattle.trace_log.specs.Log.{Happening}
 use Rattle.end_pair.specs.InSteps.{moves_with}
-use Rattle.end_pair.specs.Steps.{gives, slips, stopped_at}
+use Rattle.end_pair.specs.Steps.{gives, slips, stopped_at, stopped_for}
 use Rattle.end_pair.proofs.Doing.{AreDone, AreOnWay, IsNext, NoSlipIn, are-done, deeds_by, no-slip, no-slip-first, on-way-first, step-deeds}
 use Rattle.end_pair.proofs.DoingMoves.{IsAt, deeds-moves, keep-done, line-moves, log-done, log_with-behind, own-base, own-doings, timely-done}
 use Rattle.end_pair.proofs.EndedSteps.{none-done, of-cut-step}
@@ -203,9 +203,9 @@ module _ {S C : Type 0} (did : ℕ → List Doing → S → Type 0) (takes : C �
       append_cancel_left (noted_in run.doings) (noted_in done) loss.front
       (sym (noted-behind done run.doings) ∙ so_far.notes)
 
-  abbrev pub has-stopped : (call : ℕ) (is_cut : Bool)
-      → HasStopped did side plans now moves (stopped_at machine side now call is_cut choice input s ways loss)
-  has-stopped call is_cut = record {
+  abbrev pub has-stopped : (is_lost : Bool)
+      → HasStopped did side plans now moves (stopped_at side now choice ways (stopped_for side is_lost) loss)
+  has-stopped is_lost = record {
     done = done;
     later = so_far.later;
     next = so_far.next;
@@ -258,12 +258,12 @@ module _ {S C : Type 0} (did : ℕ → List Doing → S → Type 0) (takes : C �
       are did takes first machine side plans law now choice moves s input ways may keep timely clean at next like
       none loss has
 
-  pub has-fallen : (call : ℕ) (is_cut : Bool)
-      → HasFallen did machine side plans now moves (stopped_at machine side now call is_cut choice input s ways loss)
-  has-fallen call is_cut = record {
+  pub has-fallen : (is_lost : Bool)
+      → HasFallen did machine side plans now moves (stopped_at side now choice ways (stopped_for side is_lost) loss)
+  has-fallen is_lost = record {
     stopped =
         has-stopped did takes first machine side plans law now choice moves s input ways may keep timely clean at
-        next like none loss has call is_cut;
+        next like none loss has is_lost;
     lost = record {
       state =
           ap (λ (l : Line). (seen_from side l).here.state) (line-moves plans side now by_then moves)

@@ -8,7 +8,8 @@ use Rattle.line_schedule.specs.declared.event.Event.TheVariants as event
 use Rattle.line_way.specs.Ways.{Ways, characters_of, is_under_way, next_byte}
 use Rattle.message_end.specs.Core.{Step, Went}
 use Rattle.message_end.specs.Core.Went.{Goes, Spent}
-use Rattle.message_end.specs.Ends.{Input, Loss, Machine, call_of, wrote}
+use Rattle.message_end.specs.Ends.{Input, Machine, Passing, Reach, passing, wrote}
+use Rattle.message_end.specs.Ends.Passing.{Cuts, Lacks, Passes}
 use Rattle.message_end.specs.Ends.Input.{Char, Command, Time}
 use Rattle.trace_log.specs.Laws.{log_with}
 use Rattle.trace_log.specs.Log.{Entry, Happening}
@@ -21,7 +22,7 @@ use Rattle.end_pair.specs.declared.answers.WorldStep.TheVariants as answer
 use Rattle.end_pair.specs.Laws.{AreNotes, AreNotesBefore, EndsOneWay, IsEnd, IsSlip, NeverFills, OnNewest}
 use Rattle.end_pair.specs.Run.{closing, piece_of, whole_log}
 use Rattle.end_pair.specs.Steps.{Stepped, entries_of, made, made_by, slipped, slips, spent_for, stepped, stopped_for}
-use Rattle.end_pair.specs.World.{EndAt, Piece, World, after_event, after_events, again, and_more, and_on, armed, at_start, begun, both_stepped, darkened, ended_by, equipment_makes, equipment_stepped, given, given_next, given_times, happened, host_makes, host_stepped, is_to_lose, later, met, most_steps, restart_of, settled, settled_times, started_anew, still, timed, turned_out, way_to, with_equipment, with_host, without}
+use Rattle.end_pair.specs.World.{EndAt, Piece, World, after_event, after_events, again, and_more, and_on, armed, at_start, begun, both_stepped, darkened, ended_by, equipment_makes, equipment_stepped, given, given_next, given_times, happened, host_makes, host_stepped, later, met, most_steps, restart_of, settled, settled_times, started_anew, still, timed, turned_out, way_to, with_equipment, with_host, without}
 use Rattle.end_pair.proofs.Powered.{IsPoweredPiece, run-powered}
 
 -- ---- entries
@@ -118,7 +119,7 @@ of-both NoStore Both entries went one so = record {
   not_full = λ both. so.not_full (one both);
 }
 
-module _ {S C : Type 0} (machine : Machine S C) (side : Side) (now call : ℕ) (is_cut : Bool) (choice : CutChoice)
+module _ {S C : Type 0} (machine : Machine S C) (side : Side) (now : ℕ) (reach : Reach) (choice : CutChoice)
     (input : Input C) (s : S) (ways : Ways) where
   abbrev IsSoStep : Stepped S → Type 0
   IsSoStep step = IsSo (NeverFills machine) step.entries step.went
@@ -131,38 +132,40 @@ module _ {S C : Type 0} (machine : Machine S C) (side : Side) (now call : ℕ) (
       only-notes (NeverFills machine) entries answer.JournalFull are (λ is. cc) (λ is. cc)
       (λ never full. let not = sym is ∙ never s input now in absurd (cc))
 
-  made-so : (went : Went S Happening) → IsSoStep (made machine side now input s ways went)
-  made-so (Goes step) =
+  made-so : (left : Reach) (went : Went S Happening) → IsSoStep (made machine side now left input s ways went)
+  made-so left (Goes step) =
       only-notes (NeverFills machine) (entries_of side now (step.notes ++ wrote step.written)) answer.Went
       (noted-notes now side (step.notes ++ wrote step.written) [] tt) (λ is. cc) (λ is. cc) (λ never is. cc)
-  made-so (Spent step) =
+  made-so left (Spent step) =
       spent-so (entries_of side now step.notes) (noted-notes now side step.notes [] tt) (machine.fills s input now) refl
 
-  stopped-so : (entries : List Entry) → AreNotes entries → (is_cut : Bool)
-      → IsSo (NeverFills machine) entries (stopped_for side is_cut)
+  stopped-so : (entries : List Entry) → AreNotes entries → (is_lost : Bool)
+      → IsSo (NeverFills machine) entries (stopped_for side is_lost)
   stopped-so entries are true =
       only-notes (NeverFills machine) entries (answer.PowerLost side) are (λ is. cc) (λ is. cc) (λ never is. cc)
   stopped-so entries are false =
       only-notes (NeverFills machine) entries answer.Turns are (λ is. cc) (λ is. cc) (λ never is. cc)
 
-  by-so : (lost : Option (Loss S)) → IsSoStep (made_by machine side now call is_cut choice input s ways lost)
-  by-so None = made-so (machine.act s input now)
-  by-so (Some loss) =
-      stopped-so (entries_of side now loss.front) (noted-notes now side loss.front [] tt) is_cut
+  by-so : (passed : Passing S) → IsSoStep (made_by machine side now choice input s ways passed)
+  by-so (Passes left) = made-so left (machine.act s input now)
+  by-so (Cuts loss) =
+      stopped-so (entries_of side now loss.front) (noted-notes now side loss.front [] tt) true
+  by-so (Lacks loss) =
+      stopped-so (entries_of side now loss.front) (noted-notes now side loss.front [] tt) false
 
-  step-so : IsSoStep (stepped machine side now call is_cut choice input s ways)
+  step-so : IsSoStep (stepped machine side now reach choice input s ways)
   step-so = go (slips machine side now input s ways)
     where
       go : (b : Bool)
-          → IsSoStep (if b then slipped side now s ways
-          else made_by machine side now call is_cut choice input s ways (call_of call (machine.losses s input now)))
+          → IsSoStep (if b then slipped side now reach s ways
+          else made_by machine side now choice input s ways (passing reach (machine.losses s input now)))
       go true = record {
         slip = λ is. record { newest = tt; before = tt };
         notes = λ other. absurd (other refl);
         no_fault = λ is. cc;
         not_full = λ never is. cc;
       }
-      go false = by-so (call_of call (machine.losses s input now))
+      go false = by-so (passing reach (machine.losses s input now))
 
 -- ---- a run
 
@@ -229,8 +232,7 @@ module _ {S T : Type 0} (e : Machine S ToolCommand) (h : Machine T HostCommand) 
       go true = out-keeps world
       go false =
           of-both (NeverFills e) NoStores step.entries step.went (λ both. both.0)
-          (step-so e Equipment world.moment world.left (is_to_lose Equipment world.is_cut) world.choice input
-          world.equipment world.ways)
+          (step-so e Equipment world.moment world.reach world.choice input world.equipment world.ways)
 
   host-keeps : (input : Input HostCommand) → Keeps (host_stepped e h input)
   host-keeps input world = go (world.steps == most_steps)
@@ -242,8 +244,7 @@ module _ {S T : Type 0} (e : Machine S ToolCommand) (h : Machine T HostCommand) 
       go true = out-keeps world
       go false =
           of-both (NeverFills h) NoStores step.entries step.went (λ both. both.1)
-          (step-so h Host world.moment world.host_left (is_to_lose Host world.is_cut) world.choice input world.host
-          world.ways)
+          (step-so h Host world.moment world.host_reach world.choice input world.host world.ways)
 
   given-keeps : (side : Side) → Keeps (given e h side)
   given-keeps side world = go side (next_byte (characters_of (way_to side world).under_way))

@@ -1,6 +1,6 @@
 -- What both ends have done, as moves, and that a step of either keeps it.
 use Rattle.std.specs.List.{slice_get}
-use Rattle.std.proofs.Common.{◌≡◌, ◌⊎◌, ◌≤◌, zero, suc, ℕ, ◌==◌, Bool, true, false, List, [], ◌∷◌, ◌++◌, length, inl, inr, Option, Some, None, if◌then◌else◌, refl, sym, ap, ◌∙◌, append_assoc, arith}
+use Rattle.std.proofs.Common.{◌≡◌, ◌⊎◌, ◌≤◌, zero, suc, ℕ, ◌==◌, Bool, true, false, List, [], ◌∷◌, ◌++◌, length, inl, inr, Option, Some, if◌then◌else◌, refl, sym, ap, ◌∙◌, append_assoc, arith}
 use Rattle.disk_base.specs.declared.cut.CutChoice.{CutChoice}
 use Rattle.gl_base.specs.declared.side.Side.{Side}
 use Rattle.gl_base.specs.declared.side.Side.TheVariants.{Equipment, Host}
@@ -10,7 +10,9 @@ use Rattle.line_way.specs.Ways.{Ways}
 use Rattle.message_end.specs.Core.{Step, Went}
 use Rattle.message_end.specs.Core.Went.{Goes, Spent}
 use Rattle.message_end.specs.Doings.{Doing}
-use Rattle.message_end.specs.Ends.{Input, KeepsLaw, Loss, Machine, MayTake, call_of}
+use Rattle.message_end.specs.Ends.{Input, KeepsLaw, Loss, Machine, MayTake, Passing, Reach, call_of, passing}
+use Rattle.message_end.specs.Ends.Passing.{Cuts, Lacks, Passes}
+use Rattle.message_end.proofs.Passing.{cut-place, lack-place}
 use Rattle.message_end.specs.Log.{log_of}
 use Rattle.message_end.specs.Moves.{AreTimely, KeepLaws, LinePlans, Move, deeds_of, line_of_moves, plan_at, seen_at}
 use Rattle.message_end.specs.Own.{Has}
@@ -23,8 +25,8 @@ use Rattle.end_pair.specs.InSteps.{AreAtStates, AreOfCutStep, AreOfWholeStep, Ar
 use Rattle.end_pair.specs.InSteps.AreSteps.{one_step}
 use Rattle.end_pair.specs.InSteps.ComeInSteps.{at_a_step, in_a_step}
 use Rattle.end_pair.specs.Laws.{AreNoNotes, IsOfMoves}
-use Rattle.end_pair.specs.Steps.{Stepped, entries_of, made, made_by, slipped, slips, stopped_at}
-use Rattle.end_pair.specs.World.{EndAt, Piece, World, and_more, and_on, equipment_stepped, host_stepped, is_to_lose, most_steps, restart_of, still, turned_out, with_equipment, with_host}
+use Rattle.end_pair.specs.Steps.{Stepped, entries_of, made, made_by, slipped, slips, stopped_at, stopped_for}
+use Rattle.end_pair.specs.World.{EndAt, Piece, World, and_more, and_on, equipment_stepped, host_stepped, most_steps, restart_of, still, turned_out, with_equipment, with_host}
 use Rattle.end_pair.proofs.ByteWays.{AreByteWays}
 use Rattle.end_pair.proofs.Causes.{early-powered, never-on, stopped-own}
 use Rattle.end_pair.proofs.Doing.{IsNext}
@@ -173,8 +175,8 @@ module _ {S T : Type 0}
   -- a step of either end
   step-good :
       {X : Type 0} (did : ℕ → List Doing → X → Type 0) (side : Side) (step : Stepped X) (world : World S T)
-      (moves : List Move) (s : S) (t : T) (n : ℕ) (cut : Option (Side × ℕ)) (left host_left : ℕ)
-      (is_cut : Option Side) (choice : CutChoice)
+      (moves : List Move) (s : S) (t : T) (n : ℕ) (cut : Option (Side × ℕ)) (reach host_reach : Reach)
+      (choice : CutChoice)
       → Holds world moves → (is : HasStepped did side plans world.moment moves step)
       → IsAt did_e Equipment plans (moves_with side world.moment is.done moves) s
       → IsAt did_h Host plans (moves_with side world.moment is.done moves) t
@@ -189,16 +191,15 @@ module _ {S T : Type 0}
               moment = world.moment;
               steps = n;
               cut = cut;
-              left = left;
-              host_left = host_left;
-              is_cut = is_cut;
+              reach = reach;
+              host_reach = host_reach;
               choice = choice;
             };
         entries = step.entries;
         went = step.went;
       })
       (log_of moves)
-  step-good did side step world moves s t n cut left host_left is_cut choice holds is equipment host powered = record {
+  step-good did side step world moves s t n cut reach host_reach choice holds is equipment host powered = record {
     of = record {
       moves = later;
       keep = is.are.keep;
@@ -250,11 +251,11 @@ module _ {S T : Type 0}
           ∙ ap (λ (es : List Entry). is.last ++ es) (sym is.are.log)
 
   made-powered :
-      {X C : Type 0} (machine : Machine X C) (side : Side) (now : ℕ) (input : Input C) (s : X) (ways : Ways)
-      (went : Went X Happening) (whose : Side) → (made machine side now input s ways went).went ≡ answer.PowerLost whose
-      → ⊥
-  made-powered machine side now input s ways (Goes step) whose is = absurd (cc)
-  made-powered machine side now input s ways (Spent step) whose is =
+      {X C : Type 0} (machine : Machine X C) (side : Side) (now : ℕ) (left : Reach) (input : Input C) (s : X)
+      (ways : Ways) (went : Went X Happening) (whose : Side)
+      → (made machine side now left input s ways went).went ≡ answer.PowerLost whose → ⊥
+  made-powered machine side now left input s ways (Goes step) whose is = absurd (cc)
+  made-powered machine side now left input s ways (Spent step) whose is =
       early-powered (machine.fills s input now) whose is
 
   -- in which its disk has stopped it
@@ -395,18 +396,16 @@ module _ {S T : Type 0}
   has-loss zero losses loss is = absurd (cc)
   has-loss (suc before) losses loss is = has-at losses before loss is
 
-  -- a step, by whether it is a slip, and which loss is at its call
-  abbrev tool_step : Input ToolCommand → World S T → Bool → Option (Loss S) → Stepped S
-  tool_step input world slip lost =
-      if slip then slipped Equipment world.moment world.equipment world.ways
-      else made_by e Equipment world.moment world.left (is_to_lose Equipment world.is_cut) world.choice input
-      world.equipment world.ways lost
+  -- a step, by whether it is a slip, and how far its calls come
+  abbrev tool_step : Input ToolCommand → World S T → Bool → Passing S → Stepped S
+  tool_step input world slip passed =
+      if slip then slipped Equipment world.moment world.reach world.equipment world.ways
+      else made_by e Equipment world.moment world.choice input world.equipment world.ways passed
 
-  abbrev user_step : Input HostCommand → World S T → Bool → Option (Loss T) → Stepped T
-  user_step input world slip lost =
-      if slip then slipped Host world.moment world.host world.ways
-      else made_by h Host world.moment world.host_left (is_to_lose Host world.is_cut) world.choice input world.host
-      world.ways lost
+  abbrev user_step : Input HostCommand → World S T → Bool → Passing T → Stepped T
+  user_step input world slip passed =
+      if slip then slipped Host world.moment world.host_reach world.host world.ways
+      else made_by h Host world.moment world.choice input world.host world.ways passed
 
   pub equipment-keeps :
       (input : Input ToolCommand) → MayTake tool input → (world : World S T) (moves : List Move) → Holds world moves
@@ -414,44 +413,55 @@ module _ {S T : Type 0}
       → Good (equipment_stepped e h input world) (log_of moves)
   equipment-keeps input may world moves holds next =
       by_turn (world.steps == most_steps) (slips e Equipment world.moment input world.equipment world.ways)
-      (call_of world.left (e.losses world.equipment input world.moment)) refl refl
+      (passing world.reach losses) refl refl
     where
-      is_cut : Bool
-      is_cut = is_to_lose Equipment world.is_cut
+      losses : List (Loss S)
+      losses = e.losses world.equipment input world.moment
 
       whole : (step : Stepped S) → (is : HasStepped did_e Equipment plans world.moment moves step)
           → ((whose : Side) → step.went ≡ answer.PowerLost whose → ⊥)
           → Good (with_equipment e h world step) (log_of moves)
       whole step is powered =
-          step-good did_e Equipment step world moves step.end world.host _ _ _ _ _ _ holds is is.are.at
+          step-good did_e Equipment step world moves step.end world.host _ _ _ _ _ holds is is.are.at
           (other-is did_h Equipment plans world.moment is.done moves world.host holds.made.host) powered
 
-      by_turn : (turn slip : Bool) (lost : Option (Loss S))
-          → slips e Equipment world.moment input world.equipment world.ways ≡ slip
-          → call_of world.left (e.losses world.equipment input world.moment) ≡ lost
-          → Good (if turn then turned_out world else with_equipment e h world (tool_step input world slip lost))
+      stopped : slips e Equipment world.moment input world.equipment world.ways ≡ false → (is_lost : Bool)
+          (loss : Loss S)
+          (place : (call : ℕ) × (call_of call losses ≡ Some loss))
+          → Good (with_equipment e h world
+          (stopped_at Equipment world.moment world.choice world.ways (stopped_for Equipment is_lost) loss))
           (log_of moves)
-      by_turn true slip lost slip_is lost_is = goes-out world moves holds
-      by_turn false true lost slip_is lost_is =
-          whole (slipped Equipment world.moment world.equipment world.ways)
-          (has-slipped did_e tool first_e e Equipment plans law_e world.moment moves world.equipment world.ways
-          holds.made.keep holds.made.timely holds.made.clean holds.made.equipment) (λ whose is. cc)
-      by_turn false false None slip_is lost_is =
-          whole
-          (made e Equipment world.moment input world.equipment world.ways (e.act world.equipment input world.moment))
-          (has-made did_e tool first_e e Equipment plans law_e world.moment moves world.equipment input world.ways may
-          holds.made.keep holds.made.timely holds.made.clean holds.made.equipment next holds.stands holds.bytes slip_is)
-          (made-powered e Equipment world.moment input world.equipment world.ways
-          (e.act world.equipment input world.moment))
-      by_turn false false (Some loss) slip_is lost_is =
+      stopped slip_is is_lost loss place =
           equipment-fallen
-          (stopped_at e Equipment world.moment world.left is_cut world.choice input world.equipment world.ways loss)
+          (stopped_at Equipment world.moment world.choice world.ways (stopped_for Equipment is_lost) loss)
           world moves holds
           (has-fallen did_e tool first_e e Equipment plans law_e world.moment world.choice moves world.equipment input
           world.ways may holds.made.keep holds.made.timely holds.made.clean holds.made.equipment next holds.stands
-          slip_is loss (has-loss world.left (e.losses world.equipment input world.moment) loss lost_is) world.left
-          is_cut)
-          (never-on Equipment is_cut) (stopped-own Equipment is_cut)
+          slip_is loss (has-loss place.0 losses loss place.1) is_lost)
+          (never-on Equipment is_lost) (stopped-own Equipment is_lost)
+
+      by_turn : (turn slip : Bool) (passed : Passing S)
+          → slips e Equipment world.moment input world.equipment world.ways ≡ slip
+          → passing world.reach losses ≡ passed
+          → Good (if turn then turned_out world else with_equipment e h world (tool_step input world slip passed))
+          (log_of moves)
+      by_turn true slip passed slip_is is = goes-out world moves holds
+      by_turn false true passed slip_is is =
+          whole (slipped Equipment world.moment world.reach world.equipment world.ways)
+          (has-slipped did_e tool first_e e Equipment plans law_e world.moment moves world.reach world.equipment
+          world.ways
+          holds.made.keep holds.made.timely holds.made.clean holds.made.equipment) (λ whose is. cc)
+      by_turn false false (Passes left) slip_is is =
+          whole
+          (made e Equipment world.moment left input world.equipment world.ways
+          (e.act world.equipment input world.moment))
+          (has-made did_e tool first_e e Equipment plans law_e world.moment moves left world.equipment input
+          world.ways may
+          holds.made.keep holds.made.timely holds.made.clean holds.made.equipment next holds.stands holds.bytes slip_is)
+          (made-powered e Equipment world.moment left input world.equipment world.ways
+          (e.act world.equipment input world.moment))
+      by_turn false false (Cuts loss) slip_is is = stopped slip_is true loss (cut-place world.reach losses loss is)
+      by_turn false false (Lacks loss) slip_is is = stopped slip_is false loss (lack-place world.reach losses loss is)
 
   pub host-keeps :
       (input : Input HostCommand) → MayTake user input → (world : World S T) (moves : List Move) → Holds world moves
@@ -459,37 +469,45 @@ module _ {S T : Type 0}
       → Good (host_stepped e h input world) (log_of moves)
   host-keeps input may world moves holds next =
       by_turn (world.steps == most_steps) (slips h Host world.moment input world.host world.ways)
-      (call_of world.host_left (h.losses world.host input world.moment)) refl refl
+      (passing world.host_reach losses) refl refl
     where
-      is_cut : Bool
-      is_cut = is_to_lose Host world.is_cut
+      losses : List (Loss T)
+      losses = h.losses world.host input world.moment
 
       whole : (step : Stepped T) → (is : HasStepped did_h Host plans world.moment moves step)
           → ((whose : Side) → step.went ≡ answer.PowerLost whose → ⊥) → Good (with_host e h world step) (log_of moves)
       whole step is powered =
-          step-good did_h Host step world moves world.equipment step.end _ _ _ _ _ _ holds is
+          step-good did_h Host step world moves world.equipment step.end _ _ _ _ _ holds is
           (other-is did_e Host plans world.moment is.done moves world.equipment holds.made.equipment) is.are.at powered
 
-      by_turn : (turn slip : Bool) (lost : Option (Loss T))
-          → slips h Host world.moment input world.host world.ways ≡ slip
-          → call_of world.host_left (h.losses world.host input world.moment) ≡ lost
-          → Good (if turn then turned_out world else with_host e h world (user_step input world slip lost))
+      stopped : slips h Host world.moment input world.host world.ways ≡ false → (is_lost : Bool) (loss : Loss T)
+          (place : (call : ℕ) × (call_of call losses ≡ Some loss))
+          → Good
+          (with_host e h world (stopped_at Host world.moment world.choice world.ways (stopped_for Host is_lost) loss))
           (log_of moves)
-      by_turn true slip lost slip_is lost_is = goes-out world moves holds
-      by_turn false true lost slip_is lost_is =
-          whole (slipped Host world.moment world.host world.ways)
-          (has-slipped did_h user first_h h Host plans law_h world.moment moves world.host world.ways holds.made.keep
-          holds.made.timely holds.made.clean holds.made.host) (λ whose is. cc)
-      by_turn false false None slip_is lost_is =
-          whole (made h Host world.moment input world.host world.ways (h.act world.host input world.moment))
-          (has-made did_h user first_h h Host plans law_h world.moment moves world.host input world.ways may
-          holds.made.keep holds.made.timely holds.made.clean holds.made.host next holds.stands holds.bytes slip_is)
-          (made-powered h Host world.moment input world.host world.ways (h.act world.host input world.moment))
-      by_turn false false (Some loss) slip_is lost_is =
-          host-fallen
-          (stopped_at h Host world.moment world.host_left is_cut world.choice input world.host world.ways loss) world
+      stopped slip_is is_lost loss place =
+          host-fallen (stopped_at Host world.moment world.choice world.ways (stopped_for Host is_lost) loss) world
           moves holds
           (has-fallen did_h user first_h h Host plans law_h world.moment world.choice moves world.host input world.ways
           may holds.made.keep holds.made.timely holds.made.clean holds.made.host next holds.stands slip_is loss
-          (has-loss world.host_left (h.losses world.host input world.moment) loss lost_is) world.host_left is_cut)
-          (never-on Host is_cut) (stopped-own Host is_cut)
+          (has-loss place.0 losses loss place.1) is_lost)
+          (never-on Host is_lost) (stopped-own Host is_lost)
+
+      by_turn : (turn slip : Bool) (passed : Passing T)
+          → slips h Host world.moment input world.host world.ways ≡ slip
+          → passing world.host_reach losses ≡ passed
+          → Good (if turn then turned_out world else with_host e h world (user_step input world slip passed))
+          (log_of moves)
+      by_turn true slip passed slip_is is = goes-out world moves holds
+      by_turn false true passed slip_is is =
+          whole (slipped Host world.moment world.host_reach world.host world.ways)
+          (has-slipped did_h user first_h h Host plans law_h world.moment moves world.host_reach world.host world.ways
+          holds.made.keep holds.made.timely holds.made.clean holds.made.host) (λ whose is. cc)
+      by_turn false false (Passes left) slip_is is =
+          whole (made h Host world.moment left input world.host world.ways (h.act world.host input world.moment))
+          (has-made did_h user first_h h Host plans law_h world.moment moves left world.host input world.ways may
+          holds.made.keep holds.made.timely holds.made.clean holds.made.host next holds.stands holds.bytes slip_is)
+          (made-powered h Host world.moment left input world.host world.ways (h.act world.host input world.moment))
+      by_turn false false (Cuts loss) slip_is is = stopped slip_is true loss (cut-place world.host_reach losses loss is)
+      by_turn false false (Lacks loss) slip_is is =
+          stopped slip_is false loss (lack-place world.host_reach losses loss is)

@@ -9,7 +9,7 @@ use Rattle.line_order.specs.Characters as order
 use Rattle.line_schedule.specs.declared.event.Event.{Event}
 use Rattle.line_schedule.specs.declared.event.Event.TheVariants as event
 use Rattle.line_way.specs.declared.character.Character.{Character}
-use Rattle.line_way.specs.Kept.{direction_to, with_change, with_noise}
+use Rattle.line_way.specs.Kept.{direction_to}
 use Rattle.line_way.specs.Ways.{Ways, characters_of, is_under_way, next_byte}
 use Rattle.line_end.specs.State.{LineState, new_state}
 use Rattle.line_end.specs.declared.plan.Times.{Times}
@@ -21,8 +21,7 @@ use Rattle.message_end.specs.Doings.Doing.{Says}
 use Rattle.message_end.specs.Ends.{HasRestarted, Input, KeepsLaw, Machine, MayTake, OnStart}
 use Rattle.message_end.specs.Ends.Input.{Char, Command, Time}
 use Rattle.message_end.specs.Log.{log_of}
-use Rattle.message_end.specs.Moves.{IsHigher, IsNextByte, KeepLaws, Kind, LinePlans, Move, Run, line_of_moves, plan_at, run_at, seen_at}
-use Rattle.message_end.specs.Moves.Kind.{Added, Changed, Did, Lost, Started}
+use Rattle.message_end.specs.Moves.{IsHigher, IsNextByte, KeepLaws, LinePlans, Move, Run, line_of_moves, plan_at, run_at, seen_at}
 use Rattle.message_end.specs.Own.{Has, drawn_in}
 use Rattle.message_end.specs.Plan.{EndPlan}
 use Rattle.message_end.specs.Starts.{IsStartOf}
@@ -34,23 +33,24 @@ use Rattle.trace_log.specs.declared.commands.ToolCommand.{ToolCommand}
 use Rattle.end_pair.specs.declared.answers.WorldStep.{WorldStep}
 use Rattle.end_pair.specs.declared.answers.WorldStep.TheVariants as answer
 use Rattle.end_pair.specs.Kept.{MayHappen}
-use Rattle.end_pair.specs.InSteps.{AreAtStates, IsFate, power_at, started_at}
-use Rattle.end_pair.specs.InSteps.AreSteps.{both_start, line_changes, starts_anew}
+use Rattle.end_pair.specs.InSteps.{AreAtStates, power_at, started_at}
+use Rattle.end_pair.specs.InSteps.AreSteps.{both_start, starts_anew}
 use Rattle.end_pair.specs.InSteps.ComeInSteps.{without_power}
 use Rattle.end_pair.specs.Laws.{AreNoNotes, HasBytes, IsOfMoves}
 use Rattle.end_pair.specs.Run.{piece_of}
 use Rattle.end_pair.specs.Steps.{entries_of}
 use Rattle.end_pair.specs.World.{EndAt, Piece, World, added_to, after_event, after_events, again, and_more, and_on, armed, at_start, begun, both_stepped, changed_at, darkened, ended_by, equipment_stepped, given, given_next, given_times, happened, host_stepped, later, lost, lost_from, met, planned, restart_of, settled, settled_times, started_anew, still, timed, way_to, with_started, without}
-use Rattle.end_pair.proofs.ByteWays.{AreByteCharacters, AreByteWays, bytes-to, bytes-with, dropped, with-byte}
+use Rattle.end_pair.proofs.ByteWays.{AreByteCharacters, AreByteWays, bytes-to}
 use Rattle.end_pair.proofs.Doing.{IsNext}
 use Rattle.end_pair.proofs.DoingMoves.{IsAt}
-use Rattle.end_pair.proofs.LineDeeds.{lost-more, lost-none, new-stands}
+use Rattle.end_pair.proofs.LineDeeds.{new-stands}
 use Rattle.end_pair.proofs.EndedSteps.{cut-at-once}
 use Rattle.end_pair.proofs.Fallen.{lost-between}
+use Rattle.end_pair.proofs.Fates as fates
 use Rattle.end_pair.proofs.HeldSteps as held
 use Rattle.end_pair.proofs.Moved.{HasLostAll}
 use Rattle.message_end.proofs.LineKept.{side-kept, times-kept}
-use Rattle.end_pair.proofs.Renamed.{IsLike, like-change, like-lost, like-noise, renamed_all}
+use Rattle.end_pair.proofs.Renamed.{IsLike, renamed_all}
 
 module _ {S T : Type 0}
     (did_e : ℕ → List Doing → S → Type 0) (did_h : ℕ → List Doing → T → Type 0)
@@ -173,68 +173,14 @@ module _ {S T : Type 0}
 
   -- ---- what becomes of characters
 
-  fate-made :
-      (side : Side) (kind : Kind) (now : ℕ) (moves : List Move) (s : S) (t : T) → IsFate kind → AreMade moves s t
-      → AreMade (record { side = side; moment = now; kind = kind } ∷ moves) s t
-  fate-made side (Did doing) now moves s t is made = absurd is
-  fate-made side (Started note base) now moves s t is made = absurd is
-  fate-made Equipment kind now moves s t is made = record {
-    keep = (tt, made.keep);
-    timely = (tt, made.timely);
-    clean = (refl, made.clean);
-    equipment = made.equipment;
-    host = made.host;
-    steps = line_changes _ moves Equipment now kind refl is made.steps;
-  }
-  fate-made Host kind now moves s t is made = record {
-    keep = (tt, made.keep);
-    timely = (tt, made.timely);
-    clean = (refl, made.clean);
-    equipment = made.equipment;
-    host = made.host;
-    steps = line_changes _ moves Host now kind refl is made.steps;
-  }
-
-  lost-once : (side : Side) (world : World S T) (moves : List Move) → Holds world moves
-      → Holds (lost_from 1 side world) (record { side = side; moment = world.moment; kind = Lost } ∷ moves)
-  lost-once side world moves holds = record {
-    made = fate-made side Lost world.moment moves world.equipment world.host tt holds.made;
-    stands = like-lost side world.ways (line_of_moves plans moves) holds.stands;
-    bytes =
-        bytes-with side (lost 1 (way_to side world)) world.ways
-        (dropped 1 (way_to side world).under_way (bytes-to side world.ways holds.bytes)) holds.bytes;
-  }
-
   losses-keep : (n : ℕ) (side : Side) → Keeps (λ world. still (lost_from n side world))
-  losses-keep zero side world moves holds =
-      subst (λ (w : World S T). Good (still w) (log_of moves)) (sym (lost-none side world))
-      (goes-still world moves holds)
-  losses-keep (suc n) side world moves holds =
-      subst (λ (w : World S T). Good (still w) (log_of moves)) (sym (lost-more n side world))
-      (losses-keep n side (lost_from 1 side world) _ (lost-once side world moves holds))
+  losses-keep = fates.losses-keep did_e did_h tool user first_e first_h e h plans law_e law_h
 
   change-keeps : (side : Side) (place byte : ℕ) → byte < 256 → Keeps (λ world. still (changed_at side place byte world))
-  change-keeps side place byte small world moves holds =
-      goes-still (changed_at side place byte world)
-      (record { side = side; moment = world.moment; kind = Changed place byte } ∷ moves) (record {
-        made = fate-made side (Changed place byte) world.moment moves world.equipment world.host tt holds.made;
-        stands = like-change side place byte world.ways (line_of_moves plans moves) holds.stands;
-        bytes =
-            bytes-with side (with_change place byte (way_to side world)) world.ways
-            (with-byte place byte (way_to side world).under_way small (bytes-to side world.ways holds.bytes))
-            holds.bytes;
-      })
+  change-keeps = fates.change-keeps did_e did_h tool user first_e first_h e h plans law_e law_h
 
   add-keeps : (side : Side) (byte : ℕ) → byte < 256 → Keeps (λ world. still (added_to side byte world))
-  add-keeps side byte small world moves holds =
-      goes-still (added_to side byte world)
-      (record { side = side; moment = world.moment; kind = Added byte } ∷ moves) (record {
-        made = fate-made side (Added byte) world.moment moves world.equipment world.host tt holds.made;
-        stands = like-noise side byte world.ways (line_of_moves plans moves) holds.stands;
-        bytes =
-            bytes-with side (with_noise byte (way_to side world)) world.ways
-            (small, bytes-to side world.ways holds.bytes) holds.bytes;
-      })
+  add-keeps = fates.add-keeps did_e did_h tool user first_e first_h e h plans law_e law_h
 
   later-keeps : (ms : ℕ) (more : World S T → Piece S T) → Keeps more → Keeps (λ world. more (later ms world))
   later-keeps ms more one world moves holds =

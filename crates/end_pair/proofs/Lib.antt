@@ -9,6 +9,7 @@ pub mod EndedSteps
 pub mod Ending
 pub mod EndNoting
 pub mod Fallen
+pub mod Fates
 pub mod FiveWays
 pub mod HeldSteps
 pub mod Holding

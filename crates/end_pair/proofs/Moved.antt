@@ -17,7 +17,7 @@ use Rattle.message_end.specs.Core.{Step, Went}
 use Rattle.message_end.specs.Core.Went.{Goes, Spent}
 use Rattle.message_end.specs.Doings.{Doing, line_of, own_of}
 use Rattle.message_end.specs.Drops.{AreDroppedAt}
-use Rattle.message_end.specs.Ends.{AreBegunOf, AreOfStep, DoesMore, DoesStep, HasRestarted, Input, KeepsLaw, Machine, MayTake, OnStart, taking_calls, wrote}
+use Rattle.message_end.specs.Ends.{AreBegunOf, AreOfStep, DoesMore, DoesStep, HasRestarted, Input, KeepsLaw, Machine, MayTake, OnStart, Reach, taking_calls, wrote}
 use Rattle.message_end.specs.Ends.Input.{Char, Command, Time}
 use Rattle.message_end.specs.Ends.IsOfWorld.{of_wrote}
 use Rattle.message_end.specs.History.{noted_in, written_in}
@@ -359,11 +359,11 @@ module _ {S C : Type 0} (did : ℕ → List Doing → S → Type 0) (takes : C �
 
   -- a slip, found before it, leaves all as it was
   pub has-slipped :
-      (now : ℕ) (moves : List Move) (s : S) (ways : Ways) → KeepLaws plans moves
+      (now : ℕ) (moves : List Move) (reach : Reach) (s : S) (ways : Ways) → KeepLaws plans moves
       → AreTimely moves → HasNoSlip (new_line plans.equipment.times plans.host.times) (deeds_of moves)
       → IsAt did side plans moves s
-      → HasStepped did side plans now moves (slipped side now s ways)
-  has-slipped now moves s ways keep timely clean at = record {
+      → HasStepped did side plans now moves (slipped side now reach s ways)
+  has-slipped now moves reach s ways keep timely clean at = record {
     done = [];
     noted = [];
     are = record { keep = keep; timely = timely; no_slip = clean; at = at; log = refl };
@@ -377,13 +377,14 @@ module _ {S C : Type 0} (did : ℕ → List Doing → S → Type 0) (takes : C �
   }
 
   pub has-made :
-      (now : ℕ) (moves : List Move) (s : S) (input : Input C) (ways : Ways) → MayTake takes input → KeepLaws plans moves
-      → AreTimely moves → HasNoSlip (new_line plans.equipment.times plans.host.times) (deeds_of moves)
+      (now : ℕ) (moves : List Move) (left : Reach) (s : S) (input : Input C) (ways : Ways) → MayTake takes input
+      → KeepLaws plans moves → AreTimely moves
+      → HasNoSlip (new_line plans.equipment.times plans.host.times) (deeds_of moves)
       → IsAt did side plans moves s
       → IsNext (seen_at side plans moves).there.under_way input → LikeMoves ways moves
       → AreByteWays ways → slips machine side now input s ways ≡ false
-      → HasStepped did side plans now moves (made machine side now input s ways (machine.act s input now))
-  has-made now moves s input ways may keep timely clean at next like bytes none =
+      → HasStepped did side plans now moves (made machine side now left input s ways (machine.act s input now))
+  has-made now moves left s input ways may keep timely clean at next like bytes none =
       by_went (like-no-slip now moves s input ways at like none) (machine.act s input now)
       (law.goes_on run.base run.doings s input now at.is may)
     where
@@ -392,7 +393,7 @@ module _ {S C : Type 0} (did : ℕ → List Doing → S → Type 0) (takes : C �
 
       by_went : NoSlipIn side now (line_of_moves plans moves) input → (went : Went S Happening)
           → DoesStep (plan_at side plans) did run.base run.doings input now went
-          → HasStepped did side plans now moves (made machine side now input s ways went)
+          → HasStepped did side plans now moves (made machine side now left input s ways went)
       by_went quiet (Goes step) more =
           let moved =
           goes-moves now moves s input (renamed like.name ways) step keep timely clean at next quiet like.stands more in

@@ -21,7 +21,7 @@ use Rattle.end_pair.specs.declared.answers.WorldStep.TheVariants as answer
 use Rattle.end_pair.specs.Noted.{AreOfCourses, AreTimesOf, TimedNotes, noted_by, timed_behind, timed_by}
 use Rattle.end_pair.specs.Run.{closing, log_of, piece_of}
 use Rattle.end_pair.specs.Steps.{Stepped, entries_of}
-use Rattle.end_pair.specs.World.{EndAt, Piece, World, added_to, after_event, after_events, again, and_more, and_on, armed, at_start, begun, both_stepped, changed_at, darkened, ended_by, equipment_makes, equipment_stepped, given, given_next, given_times, happened, host_makes, host_stepped, is_to_lose, later, lost_from, met, most_steps, planned, settled, settled_times, started_anew, still, timed, turned_out, way_to, with_equipment, with_host, with_started, without}
+use Rattle.end_pair.specs.World.{EndAt, Piece, World, added_to, after_event, after_events, again, and_more, and_on, armed, at_start, begun, both_stepped, changed_at, darkened, ended_by, equipment_makes, equipment_stepped, given, given_next, given_times, happened, host_makes, host_stepped, later, lost_from, met, most_steps, planned, settled, settled_times, started_anew, still, timed, turned_out, way_to, with_equipment, with_host, with_started, without}
 use Rattle.end_pair.proofs.EndNoting.{HasAgain, HasNoted, IsAsNoted, IsBroken, IsNoted, IsReached, again-broken, again-goes, again-noted, again-reached, behind-other, noted-other, noted-own, other-entries, own-entries, reached-noted, stays-reached, step-noted, timed-entries, timed-other, timed-own}
 use Rattle.end_pair.proofs.Causes.{by-cause}
 use Rattle.end_pair.proofs.Powered.{run-powered}
@@ -114,20 +114,17 @@ module _ {E H : Type 0}
     equipment-keeps : (input : Input ToolCommand) → Keeps (equipment_stepped e h input)
     equipment-keeps input world log at = go (world.steps == most_steps)
       where
-        is_cut : Bool
-        is_cut = is_to_lose Equipment world.is_cut
-
         step : Stepped E
         step = equipment_makes e h input world
 
         is : HasNoted equipment e Equipment step world.moment world.choice log
         is =
-            step-noted equipment e Equipment world.moment world.left is_cut world.choice input world.equipment
+            step-noted equipment e Equipment world.moment world.reach world.choice input world.equipment
             world.ways log at.equipment_is
 
         other : IsAsNoted Host (step.entries ++ log) log
         other =
-            other-entries e Equipment Host refl world.moment world.left is_cut world.choice input world.equipment
+            other-entries e Equipment Host refl world.moment world.reach world.choice input world.equipment
             world.ways log
 
         host_at : IsReached host h Host world.host (step.entries ++ log)
@@ -135,7 +132,7 @@ module _ {E H : Type 0}
 
         own : (whose : Side) → step.went ≡ answer.PowerLost whose → whose ≡ Equipment
         own =
-            (by-cause e Equipment world.moment world.left is_cut world.choice input world.equipment
+            (by-cause e Equipment world.moment world.reach world.choice input world.equipment
             world.ways).no_other_end
 
         broken : (whose : Side) → step.went ≡ answer.PowerLost whose
@@ -157,20 +154,17 @@ module _ {E H : Type 0}
     host-keeps : (input : Input HostCommand) → Keeps (host_stepped e h input)
     host-keeps input world log at = go (world.steps == most_steps)
       where
-        is_cut : Bool
-        is_cut = is_to_lose Host world.is_cut
-
         step : Stepped H
         step = host_makes e h input world
 
         is : HasNoted host h Host step world.moment world.choice log
         is =
-            step-noted host h Host world.moment world.host_left is_cut world.choice input world.host world.ways log
+            step-noted host h Host world.moment world.host_reach world.choice input world.host world.ways log
             at.host_is
 
         other : IsAsNoted Equipment (step.entries ++ log) log
         other =
-            other-entries h Host Equipment refl world.moment world.host_left is_cut world.choice input world.host
+            other-entries h Host Equipment refl world.moment world.host_reach world.choice input world.host
             world.ways log
 
         equipment_at : IsReached equipment e Equipment world.equipment (step.entries ++ log)
@@ -179,7 +173,7 @@ module _ {E H : Type 0}
 
         own : (whose : Side) → step.went ≡ answer.PowerLost whose → whose ≡ Host
         own =
-            (by-cause h Host world.moment world.host_left is_cut world.choice input world.host world.ways).no_other_end
+            (by-cause h Host world.moment world.host_reach world.choice input world.host world.ways).no_other_end
 
         broken : (whose : Side) → step.went ≡ answer.PowerLost whose
             → AreBroken whose (with_host e h world step).world (step.entries ++ log)

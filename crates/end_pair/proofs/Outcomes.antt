@@ -21,10 +21,10 @@ use Rattle.trace_log.specs.declared.commands.ToolCommand.{ToolCommand}
 use Rattle.end_pair.specs.declared.answers.WorldStep.{WorldStep}
 use Rattle.end_pair.specs.declared.answers.WorldStep.TheVariants as answer
 use Rattle.end_pair.specs.Kept.{MayHappen}
-use Rattle.end_pair.specs.Laws.{HasBytes, HasNoCall, IsOfMoves, RunsAreBounded}
+use Rattle.end_pair.specs.Laws.{HasBytes, HasNoReach, IsOfMoves, RunsAreBounded}
 use Rattle.end_pair.specs.Run.{closing, piece_of, whole_log}
 use Rattle.end_pair.specs.Run as run
-use Rattle.end_pair.specs.World.{EndAt, Piece, World, after_event, after_events, again, and_more, and_on, armed, at_start, begun, both_stepped, darkened, ended_by, equipment_makes, equipment_stepped, given, given_next, given_times, happened, host_makes, host_stepped, is_to_lose, later, met, most_steps, restart_of, settled, settled_times, started_anew, still, timed, turned_out, way_to, with_equipment, with_host, without}
+use Rattle.end_pair.specs.World.{EndAt, Piece, World, after_event, after_events, again, and_more, and_on, armed, at_start, begun, both_stepped, darkened, ended_by, equipment_makes, equipment_stepped, given, given_next, given_times, happened, host_makes, host_stepped, later, met, most_steps, restart_of, settled, settled_times, started_anew, still, timed, turned_out, way_to, with_equipment, with_host, without}
 use Rattle.end_pair.proofs.Causes.{no-call}
 use Rattle.end_pair.proofs.HeldSteps.{Good, same_moves}
 use Rattle.end_pair.proofs.Holding.{run-is}
@@ -90,7 +90,7 @@ log-is {S} {T} did_e did_h tool user loses host_loses first_e first_h e h plans 
 
 pub record IsBounded {S T : Type 0} (piece : Piece S T) : Type 0 where
   pub steps : piece.world.steps ≤ 4000000
-  pub turns : piece.went ≡ answer.Turns → (piece.world.steps ≡ 4000000) ⊎ HasNoCall piece.world
+  pub turns : piece.went ≡ answer.Turns → (piece.world.steps ≡ 4000000) ⊎ HasNoReach piece.world
 
 module _ {S T : Type 0} (e : Machine S ToolCommand) (h : Machine T HostCommand) where
   abbrev Bounds : (World S T → Piece S T) → Type 0
@@ -119,7 +119,7 @@ module _ {S T : Type 0} (e : Machine S ToolCommand) (h : Machine T HostCommand) 
   -- a step of either end is one of all steps, and is made where one is left
   turn-bounds :
       (world : World S T) (piece : Piece S T) → world.steps ≤ 4000000 → piece.world.steps ≡ world.steps + 1
-      → (piece.went ≡ answer.Turns → HasNoCall piece.world)
+      → (piece.went ≡ answer.Turns → HasNoReach piece.world)
       → IsBounded (if world.steps == most_steps then turned_out world else piece)
   turn-bounds world piece few counts full = go (world.steps == most_steps) refl
     where
@@ -135,15 +135,13 @@ module _ {S T : Type 0} (e : Machine S ToolCommand) (h : Machine T HostCommand) 
   equipment-bounds input world few =
       turn-bounds world (with_equipment e h world (equipment_makes e h input world)) few refl
       (λ crowded.
-      inl (no-call e Equipment world.moment world.left (is_to_lose Equipment world.is_cut) world.choice input
-      world.equipment world.ways crowded))
+      inl (no-call e Equipment world.moment world.reach world.choice input world.equipment world.ways crowded))
 
   host-bounds : (input : Input HostCommand) → Bounds (host_stepped e h input)
   host-bounds input world few =
       turn-bounds world (with_host e h world (host_makes e h input world)) few refl
       (λ crowded.
-      inr (no-call h Host world.moment world.host_left (is_to_lose Host world.is_cut) world.choice input world.host
-      world.ways crowded))
+      inr (no-call h Host world.moment world.host_reach world.choice input world.host world.ways crowded))
 
   given-bounds : (side : Side) → Bounds (given e h side)
   given-bounds side world few = go side (next_byte (characters_of (way_to side world).under_way))

@@ -1,5 +1,5 @@
 -- No event leaves an end without power.
-use Rattle.std.proofs.Common.{◌≡◌, ℕ, ◌==◌, Bool, true, false, List, [], ◌∷◌, Option, Some, None, if◌then◌else◌, refl, sym, ap, subst, ◌∙◌}
+use Rattle.std.proofs.Common.{◌≡◌, ℕ, ◌==◌, Bool, true, false, List, [], ◌∷◌, Option, Some, None, if◌then◌else◌, refl, ap, ◌∙◌}
 use Rattle.disk_base.specs.declared.cut.CutChoice.{CutChoice}
 use Rattle.gl_base.specs.declared.side.Side.{Side}
 use Rattle.gl_base.specs.declared.side.Side.TheVariants.{Equipment, Host}
@@ -8,7 +8,8 @@ use Rattle.line_schedule.specs.declared.event.Event.TheVariants as event
 use Rattle.line_way.specs.Ways.{Ways}
 use Rattle.message_end.specs.Core.{Step, Went}
 use Rattle.message_end.specs.Core.Went.{Goes, Spent}
-use Rattle.message_end.specs.Ends.{Input, Machine}
+use Rattle.message_end.specs.Ends.{Input, Machine, Reach}
+use Rattle.message_end.proofs.Passing.{never-cut}
 use Rattle.message_end.specs.Ends.Input.{Time}
 use Rattle.trace_log.specs.Log.{Happening}
 use Rattle.trace_log.specs.declared.commands.HostCommand.{HostCommand}
@@ -16,22 +17,20 @@ use Rattle.trace_log.specs.declared.commands.ToolCommand.{ToolCommand}
 use Rattle.end_pair.specs.declared.answers.WorldStep.{WorldStep}
 use Rattle.end_pair.specs.declared.answers.WorldStep.TheVariants as answer
 use Rattle.end_pair.specs.Run.{piece_of}
-use Rattle.end_pair.specs.Steps.{Stepped, stepped}
-use Rattle.end_pair.specs.World.{EndAt, Piece, World, after_event, after_events, and_more, and_on, armed, at_start, begun, both_stepped, darkened, ended_by, equipment_makes, equipment_stepped, happened, host_makes, host_stepped, is_to_lose, met, most_steps, restart_of, started_anew, timed, turned_out, with_equipment, with_host, without}
+use Rattle.end_pair.specs.Steps.{stepped}
+use Rattle.end_pair.specs.World.{EndAt, Piece, World, after_event, after_events, and_more, and_on, armed, at_start, begun, both_stepped, darkened, ended_by, equipment_makes, equipment_stepped, happened, host_makes, host_stepped, met, most_steps, restart_of, started_anew, timed, turned_out, with_equipment, with_host, reach_at, without}
 use Rattle.end_pair.proofs.Causes.{by-cause}
 
 -- where no power is to go none is lost
 pub unplanned :
-    {S C : Type 0} (machine : Machine S C) (side : Side) (now call : ℕ) (is_cut : Bool) (choice : CutChoice)
-    (input : Input C) (s : S)
-    (ways : Ways) → is_cut ≡ false → (whose : Side)
-    → (stepped machine side now call is_cut choice input s ways).went ≡ answer.PowerLost whose → ⊥
-unplanned machine side now call is_cut choice input s ways none whose is =
-    let causes = by-cause machine side now call is_cut choice input s ways in
+    {S C : Type 0} (machine : Machine S C) (side : Side) (now : ℕ) (reach : Reach) (choice : CutChoice)
+    (input : Input C) (s : S) (ways : Ways) → reach.cut ≡ 0 → (whose : Side)
+    → (stepped machine side now reach choice input s ways).went ≡ answer.PowerLost whose → ⊥
+unplanned machine side now reach choice input s ways none whose is =
+    let causes = by-cause machine side now reach choice input s ways in
     let same : answer.PowerLost whose ≡ answer.PowerLost side = ap answer.PowerLost (causes.no_other_end whose is) in
-    let planned : is_cut ≡ true = (causes.lost.0 (is ∙ same)).0 in
-    let not = sym planned ∙ none in
-    absurd (cc)
+    let cut = causes.lost.0 (is ∙ same) in
+    never-cut reach (machine.losses s input now) none cut.1.0 cut.1.1
 
 abbrev pub IsPoweredPiece : {E H : Type 0} → Piece E H → Type 0
 IsPoweredPiece piece = (whose : Side) → piece.went ≡ answer.PowerLost whose → ⊥
@@ -57,33 +56,34 @@ module _ {E H : Type 0} (e : Machine E ToolCommand) (h : Machine H HostCommand) 
   turn-powered world piece true powered whose is = absurd (cc)
   turn-powered world piece false powered whose is = powered whose is
 
-  step-powered : (input : Input ToolCommand) (world : World E H) → world.is_cut ≡ None
+  step-powered : (input : Input ToolCommand) (world : World E H) → world.reach.cut ≡ 0
       → IsPoweredPiece (equipment_stepped e h input world)
   step-powered input world none =
       turn-powered world (with_equipment e h world (equipment_makes e h input world)) (world.steps == most_steps)
       (λ whose is.
-      unplanned e Equipment world.moment world.left (is_to_lose Equipment world.is_cut) world.choice input
-      world.equipment world.ways (ap (is_to_lose Equipment) none) whose is)
+      unplanned e Equipment world.moment world.reach world.choice input world.equipment world.ways none whose is)
 
-  host-powered : (input : Input HostCommand) (world : World E H) → world.is_cut ≡ None
+  host-powered : (input : Input HostCommand) (world : World E H) → world.host_reach.cut ≡ 0
       → IsPoweredPiece (host_stepped e h input world)
   host-powered input world none =
       turn-powered world (with_host e h world (host_makes e h input world)) (world.steps == most_steps)
       (λ whose is.
-      unplanned h Host world.moment world.host_left (is_to_lose Host world.is_cut) world.choice input world.host
-      world.ways (ap (is_to_lose Host) none) whose is)
+      unplanned h Host world.moment world.host_reach world.choice input world.host world.ways none whose is)
 
-  timed-powered : (side : Side) (world : World E H) → world.is_cut ≡ None → IsPoweredPiece (timed e h side world)
+  timed-powered : (side : Side) (world : World E H) → (reach_at side world).cut ≡ 0
+      → IsPoweredPiece (timed e h side world)
   timed-powered Equipment world none = step-powered Time world none
   timed-powered Host world none = host-powered Time world none
 
   pub without-powered : (side : Side) (world : World E H) → IsPoweredPiece (without e h side world)
-  without-powered side world = go (restart_of e h side world)
+  without-powered side world = go side (restart_of e h side world)
     where
-      go : (went : Went (EndAt side E H) Happening)
+      go : (side : Side) (went : Went (EndAt side E H) Happening)
           → IsPoweredPiece (and_more (started_anew e h side (darkened side world) went) (timed e h side))
-      go (Goes step) = timed-powered side (started_anew e h side (darkened side world) (Goes step)).world refl
-      go (Spent step) = λ whose is. absurd (cc)
+      go Equipment (Goes step) =
+          timed-powered Equipment (started_anew e h Equipment (darkened Equipment world) (Goes step)).world refl
+      go Host (Goes step) = timed-powered Host (started_anew e h Host (darkened Host world) (Goes step)).world refl
+      go side (Spent step) = λ whose is. absurd (cc)
 
   ended-powered : (cut : Option Side) (piece : Piece E H) → IsPoweredPiece (ended_by e h cut piece.went piece)
   ended-powered cut piece = go cut piece.went refl
@@ -121,14 +121,15 @@ module _ {E H : Type 0} (e : Machine E ToolCommand) (h : Machine H HostCommand) 
       powered-then (after_event e h event world) (after_events e h events) (event-powered event world)
       (events-powered events (after_event e h event world).world)
 
-  -- a step of the equipment plans no loss
+  -- a step of the equipment plans no loss of the host's power
   stays-uncut : (input : Input ToolCommand) (world : World E H)
-      → (equipment_stepped e h input world).world.is_cut ≡ world.is_cut
+      → (equipment_stepped e h input world).world.host_reach ≡ world.host_reach
   stays-uncut input world = go (world.steps == most_steps)
     where
       go : (b : Bool)
-          → (if b then turned_out world else with_equipment e h world (equipment_makes e h input world)).world.is_cut
-          ≡ world.is_cut
+          → (if b then turned_out world
+          else with_equipment e h world (equipment_makes e h input world)).world.host_reach
+          ≡ world.host_reach
       go true = refl
       go false = refl
 
@@ -137,7 +138,8 @@ module _ {E H : Type 0} (e : Machine E ToolCommand) (h : Machine H HostCommand) 
   first-powered equipment host =
       let world = (at_start e h equipment host).world in
       powered-then (equipment_stepped e h Time world) (host_stepped e h Time) (step-powered Time world refl)
-      (host-powered Time (equipment_stepped e h Time world).world (stays-uncut Time world))
+      (host-powered Time (equipment_stepped e h Time world).world
+      (ap (λ (reach : Reach). reach.cut) (stays-uncut Time world)))
 
   pub run-powered : (equipment : Step E Happening) (host : Step H Happening) (events : List Event)
       → IsPoweredPiece (piece_of e h equipment host events)

@@ -5,7 +5,7 @@ use Rattle.std.specs.Prelude.{◌↔◌}
 use Rattle.gl_base.specs.declared.side.Side.TheVariants.{Equipment, Host}
 use Rattle.end_pair.specs.declared.answers.WorldStep.TheVariants.{Turns}
 use Rattle.end_pair.specs.TurnCauses.{FindsNoRoom, HostFindsNoRoom, IsBehindLast, TurnsEndByCause}
-use Rattle.end_pair.specs.World.{Piece, World, equipment_makes, host_makes, is_to_lose, most_steps, turned_out, with_equipment, with_host}
+use Rattle.end_pair.specs.World.{Piece, World, equipment_makes, host_makes, most_steps, turned_out, with_equipment, with_host}
 use Rattle.end_pair.proofs.Causes.{by-cause}
 
 -- a step that isn't behind the last one
@@ -28,10 +28,10 @@ pub turns-by-cause : {E H : Type 0} → TurnsEndByCause E H
 turns-by-cause e h world = record {
   equipment = λ input.
       turns-for world (with_equipment e h world (equipment_makes e h input world)) (FindsNoRoom e world input)
-      (by-cause e Equipment world.moment world.left (is_to_lose Equipment world.is_cut) world.choice input
-      world.equipment world.ways).crowded (world.steps == most_steps) refl;
+      (by-cause e Equipment world.moment world.reach world.choice input world.equipment world.ways).crowded
+      (world.steps == most_steps) refl;
   host = λ input.
       turns-for world (with_host e h world (host_makes e h input world)) (HostFindsNoRoom h world input)
-      (by-cause h Host world.moment world.host_left (is_to_lose Host world.is_cut) world.choice input world.host
-      world.ways).crowded (world.steps == most_steps) refl;
+      (by-cause h Host world.moment world.host_reach world.choice input world.host world.ways).crowded
+      (world.steps == most_steps) refl;
 }

@@ -7,7 +7,7 @@ use Rattle.line_schedule.specs.declared.event.Event.{Event}
 use Rattle.line_schedule.specs.declared.event.Event.TheVariants as event
 use Rattle.message_end.specs.Core.{Went as WentTo}
 use Rattle.message_end.specs.Core.Went.{Goes, Spent}
-use Rattle.message_end.specs.Ends.{Machine}
+use Rattle.message_end.specs.Ends.{Machine, Reach}
 use Rattle.trace_log.specs.Log.{Happening}
 use Rattle.trace_log.specs.Text.{text_of}
 use Rattle.trace_log.specs.declared.commands.HostCommand.{HostCommand}
@@ -25,16 +25,16 @@ seen equipment host world = record {
   moment = world.moment;
   steps = world.steps;
   cut = world.cut;
-  left = world.left;
-  host_left = world.host_left;
-  is_cut = world.is_cut;
+  reach = world.reach;
+  host_reach = world.host_reach;
   choice = world.choice;
 }
 
 -- an end is what it was in a world
-pub record IsAsBefore {V S : Type 0} (means : V → S) (now : V) (planned : ℕ) (end : S) (left : ℕ) : Type 0 where
-  pub end_is : means now ≡ end
-  pub left_is : planned ≡ left
+pub record IsAsBefore {V S : Type 0} (means : V → S) (now : V) (reach : Reach) (end : S) (left : Reach) : Type 0
+  where
+    pub end_is : means now ≡ end
+    pub reach_is : reach ≡ left
 
 -- a start anew makes of an end's value now what it makes of the end
 abbrev pub StartsAlike :
@@ -58,10 +58,10 @@ module _ {E H S T : Type 0} (e : KeptEnd E S ToolCommand) (h : KeptEnd H T HostC
   abbrev pub HasOnePower : Side → World E H → World S T → Type 0
   HasOnePower Equipment now left =
       StartsAlike e.anew e.machine.restart now.choice now.equipment left.equipment
-      × IsAsBefore h.means now.host now.host_left left.host left.host_left
+      × IsAsBefore h.means now.host now.host_reach left.host left.host_reach
   HasOnePower Host now left =
       StartsAlike h.anew h.machine.restart now.choice now.host left.host
-      × IsAsBefore e.means now.equipment now.left left.equipment left.left
+      × IsAsBefore e.means now.equipment now.reach left.equipment left.reach
 
   -- and all else is as in this world
   pub record IsDark (side : Side) (now : World E H) (left : World S T) : Type 0 where

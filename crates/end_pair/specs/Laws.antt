@@ -1,5 +1,5 @@
 -- What holds of every run.
-use Rattle.std.specs.Prelude.{◌≡◌, ◌≢◌, ◌↔◌, ◌⊎◌, ◌≤◌, ◌<◌, ℕ, Bool, true, false, List, [], ◌∷◌, ◌++◌, length, None, Some}
+use Rattle.std.specs.Prelude.{◌≡◌, ◌≢◌, ◌↔◌, ◌⊎◌, ◌≤◌, ◌<◌, ℕ, true, false, List, [], ◌∷◌, ◌++◌, length}
 use Rattle.disk_base.specs.declared.cut.CutChoice.{CutChoice}
 use Rattle.gl_base.specs.declared.side.Side.{Side}
 use Rattle.gl_base.specs.declared.side.Side.TheVariants.{Equipment, Host}
@@ -11,7 +11,8 @@ use Rattle.line_way.specs.Ways.{Ways}
 use Rattle.message_end.specs.Core.{Step}
 use Rattle.message_end.specs.Core.Went.{Spent}
 use Rattle.message_end.specs.Doings.{Doing}
-use Rattle.message_end.specs.Ends.{Input, Loss, Machine, call_of}
+use Rattle.message_end.specs.Ends.{Input, IsPassed, Loss, Machine, Reach, passing}
+use Rattle.message_end.specs.Ends.Passing.{Cuts, Lacks}
 use Rattle.message_end.specs.Log.{log_of}
 use Rattle.message_end.specs.Moves.{AreTimely, KeepLaws, LinePlans, Move, deeds_of, plan_at}
 use Rattle.message_end.specs.Plan.{EndPlan}
@@ -23,22 +24,22 @@ use Rattle.end_pair.specs.declared.answers.WorldStep.{WorldStep}
 use Rattle.end_pair.specs.declared.answers.WorldStep.TheVariants.{JournalFull, NoMemory, NumbersSpent, PowerLost, Slip, Turns, Went}
 use Rattle.end_pair.specs.InSteps.{ComeInSteps}
 use Rattle.end_pair.specs.Run.{piece_of, went_of, whole_log}
-use Rattle.end_pair.specs.Steps.{slips, stepped}
+use Rattle.end_pair.specs.Steps.{no_reach, slips, stepped}
 use Rattle.end_pair.specs.World.{World, most_steps}
 
--- no call of the disk of an end is left
-abbrev pub HasNoCall : {E H : Type 0} → World E H → Type 0
-HasNoCall world = (world.left ≡ 0) ⊎ (world.host_left ≡ 0)
+-- the disk of an end goes no further
+abbrev pub HasNoReach : {E H : Type 0} → World E H → Type 0
+HasNoReach world = (world.reach ≡ no_reach) ⊎ (world.host_reach ≡ no_reach)
 
--- a run's steps never pass the most of them; and it has no turn left only with all of them made, or with no call left
--- of the disk of an end
+-- a run's steps never pass the most of them; and it has no turn left only with all of them made, or where the disk of
+-- an end goes no further
 abbrev pub RunsAreBounded : Type 0 → Type 0 → Type 0
 RunsAreBounded E H =
     (e : Machine E ToolCommand) (h : Machine H HostCommand) (equipment : Step E Happening)
     (host : Step H Happening) (events : List Event)
     → let piece = piece_of e h equipment host events in
     (piece.world.steps ≤ most_steps)
-    × (piece.went ≡ Turns → (piece.world.steps ≡ most_steps) ⊎ HasNoCall piece.world)
+    × (piece.went ≡ Turns → (piece.world.steps ≡ most_steps) ⊎ HasNoReach piece.world)
 
 -- what an end has noted, a slip, and the end of a run
 abbrev pub IsNote : Entry → Type 0
@@ -99,48 +100,54 @@ NeverFull E H =
     (host : Step H Happening) (events : List Event)
     → NeverFills e → NeverFills h → went_of e h equipment host events ≢ JournalFull
 
--- it makes the call of its disk at which that stops
-abbrev pub StopsAt : {S C : Type 0} → Machine S C → Side → ℕ → ℕ → Input C → S → Ways → Type 0
-StopsAt {S} machine side now call input s ways =
+-- it comes to the call of its disk at which its power is to go, and there was room for those before
+abbrev pub IsCutShort : {S C : Type 0} → Machine S C → Side → ℕ → Reach → Input C → S → Ways → Type 0
+IsCutShort {S} machine side now reach input s ways =
     (slips machine side now input s ways ≡ false)
-    × ((loss : Loss S) × (call_of call (machine.losses s input now) ≡ Some loss))
+    × ((loss : Loss S) × (passing reach (machine.losses s input now) ≡ Cuts loss))
 
--- it ends early where it isn't ended before: no slip goes first, and no call of its disk at which that stops
-abbrev pub EndsEarly : {S C : Type 0} → Machine S C → Side → ℕ → ℕ → Input C → S → Ways → Type 0
-EndsEarly {S} machine side now call input s ways =
+-- or to the first call for which its disk has no room, before its power is to go
+abbrev pub LacksRoom : {S C : Type 0} → Machine S C → Side → ℕ → Reach → Input C → S → Ways → Type 0
+LacksRoom {S} machine side now reach input s ways =
     (slips machine side now input s ways ≡ false)
-    × ((call_of call (machine.losses s input now) ≡ None)
+    × ((loss : Loss S) × (passing reach (machine.losses s input now) ≡ Lacks loss))
+
+-- it ends early where it isn't ended before: no slip goes first, and all its calls of the disk are made
+abbrev pub EndsEarly : {S C : Type 0} → Machine S C → Side → ℕ → Reach → Input C → S → Ways → Type 0
+EndsEarly {S} machine side now reach input s ways =
+    (slips machine side now input s ways ≡ false)
+    × (IsPassed (passing reach (machine.losses s input now))
     × ((step : Step S Happening) × (machine.act s input now ≡ Spent step)))
 
 -- a step ends a run for a slip, for a call that its disk has no room for, where there is such a one, for a full store
 -- of the end's own and for spent numbers, or an event for a loss of power at the call that is planned, and never else:
 -- a slip goes first, and the disk's call before what ends a step early
 pub record EndsByCause {S C : Type 0}
-    (machine : Machine S C) (side : Side) (now call : ℕ) (is_cut : Bool) (choice : CutChoice) (input : Input C) (s : S)
+    (machine : Machine S C) (side : Side) (now : ℕ) (reach : Reach) (choice : CutChoice) (input : Input C) (s : S)
     (ways : Ways) : Type 0 where
   pub slip :
-      (stepped machine side now call is_cut choice input s ways).went ≡ Slip
+      (stepped machine side now reach choice input s ways).went ≡ Slip
       ↔ slips machine side now input s ways ≡ true
   pub lost :
-      (stepped machine side now call is_cut choice input s ways).went ≡ PowerLost side
-      ↔ ((is_cut ≡ true) × StopsAt machine side now call input s ways)
+      (stepped machine side now reach choice input s ways).went ≡ PowerLost side
+      ↔ IsCutShort machine side now reach input s ways
   pub crowded :
-      (stepped machine side now call is_cut choice input s ways).went ≡ Turns
-      ↔ ((is_cut ≡ false) × StopsAt machine side now call input s ways)
+      (stepped machine side now reach choice input s ways).went ≡ Turns
+      ↔ LacksRoom machine side now reach input s ways
   pub spent :
-      (stepped machine side now call is_cut choice input s ways).went ≡ NumbersSpent
-      ↔ (EndsEarly machine side now call input s ways × (machine.fills s input now ≡ false))
+      (stepped machine side now reach choice input s ways).went ≡ NumbersSpent
+      ↔ (EndsEarly machine side now reach input s ways × (machine.fills s input now ≡ false))
   pub full :
-      (stepped machine side now call is_cut choice input s ways).went ≡ JournalFull
-      ↔ (EndsEarly machine side now call input s ways × (machine.fills s input now ≡ true))
-  pub no_other : (stepped machine side now call is_cut choice input s ways).went ≢ NoMemory
+      (stepped machine side now reach choice input s ways).went ≡ JournalFull
+      ↔ (EndsEarly machine side now reach input s ways × (machine.fills s input now ≡ true))
+  pub no_other : (stepped machine side now reach choice input s ways).went ≢ NoMemory
   pub no_other_end :
-      (other : Side) → (stepped machine side now call is_cut choice input s ways).went ≡ PowerLost other → other ≡ side
+      (other : Side) → (stepped machine side now reach choice input s ways).went ≡ PowerLost other → other ≡ side
 
 abbrev pub StepsEndByCause : Type 0 → Type 0 → Type 0
 StepsEndByCause S C =
-    (machine : Machine S C) (side : Side) (now call : ℕ) (is_cut : Bool) (choice : CutChoice) (input : Input C) (s : S)
-    (ways : Ways) → EndsByCause machine side now call is_cut choice input s ways
+    (machine : Machine S C) (side : Side) (now : ℕ) (reach : Reach) (choice : CutChoice) (input : Input C) (s : S)
+    (ways : Ways) → EndsByCause machine side now reach choice input s ways
 
 -- an entry that no end has noted
 abbrev pub IsNoNote : Entry → Type 0

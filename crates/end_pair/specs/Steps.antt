@@ -1,5 +1,5 @@
 -- One step of an end on the line (this profile).
-use Rattle.std.specs.Prelude.{◌&&◌, ℕ, Bool, true, false, List, [], ◌∷◌, ◌++◌, length, Option, Some, None, if◌then◌else◌}
+use Rattle.std.specs.Prelude.{◌&&◌, ℕ, Bool, true, false, List, [], ◌∷◌, ◌++◌, if◌then◌else◌}
 use Rattle.disk_base.specs.declared.cut.CutChoice.{CutChoice}
 use Rattle.gl_base.specs.declared.side.Side.{Side}
 use Rattle.line_end.specs.Step.{is_due}
@@ -8,22 +8,23 @@ use Rattle.line_way.specs.Slip.{first_frame}
 use Rattle.line_way.specs.Ways.{Ways, bytes_of, characters_of}
 use Rattle.message_end.specs.Core.{Went}
 use Rattle.message_end.specs.Core.Went.{Goes, Spent}
-use Rattle.message_end.specs.Ends.{Input, Loss, Machine, call_of, wrote}
+use Rattle.message_end.specs.Ends.{Input, Loss, Machine, Passing, Reach, none_asked, passing, wrote}
 use Rattle.message_end.specs.Ends.Input.{Char, Command, Time}
+use Rattle.message_end.specs.Ends.Passing.{Cuts, Lacks, Passes}
 use Rattle.trace_log.specs.Laws.{log_with}
 use Rattle.trace_log.specs.Log.{Entry, Happening}
 use Rattle.trace_log.specs.Log.Entry.{Slipped}
 use Rattle.end_pair.specs.declared.answers.WorldStep.{WorldStep}
 use Rattle.end_pair.specs.declared.answers.WorldStep.TheVariants as answer
 
--- what a step leaves: the end, both directions of the line, the entries that were made, the newest first, and how it
--- went; and how many calls its disk has made
+-- what a step leaves: the end, both directions of the line, the entries that were made, the newest first, how it went,
+-- and how far the end's disk goes on
 pub record Stepped (S : Type 0) : Type 0 where
   pub end : S
   pub ways : Ways
   pub entries : List Entry
   pub went : WorldStep
-  pub calls : ℕ
+  pub reach : Reach
 
 -- the end is given the next character on its way
 abbrev pub gives : {C : Type 0} → Input C → Bool
@@ -53,61 +54,64 @@ abbrev pub spent_for : (fills : Bool) → WorldStep
 spent_for true = answer.JournalFull
 spent_for false = answer.NumbersSpent
 
--- the step goes on, or ends early and nothing is sent
+-- the step goes on, or ends early and nothing is sent; all its calls of the disk are made
 abbrev pub made :
-    {S C : Type 0} → Machine S C → Side → ℕ → Input C → S → Ways → Went S Happening → Stepped S
-made machine side now input s ways (Goes step) = record {
+    {S C : Type 0} → Machine S C → Side → ℕ → Reach → Input C → S → Ways → Went S Happening → Stepped S
+made machine side now left input s ways (Goes step) = record {
   end = step.next;
   ways = ways_after side (gives input) (machine.line step.next).phase step.written ways;
   entries = entries_of side now (step.notes ++ wrote step.written);
   went = answer.Went;
-  calls = length (machine.losses s input now);
+  reach = left;
 }
-made machine side now input s ways (Spent step) = record {
+made machine side now left input s ways (Spent step) = record {
   end = step.next;
   ways = ways;
   entries = entries_of side now step.notes;
   went = spent_for (machine.fills s input now);
-  calls = length (machine.losses s input now);
+  reach = left;
 }
 
 -- a slip's entry stands for the whole step, and the disk isn't asked
-abbrev pub slipped : {S : Type 0} → Side → ℕ → S → Ways → Stepped S
-slipped side now s ways = record {
+abbrev pub slipped : {S : Type 0} → Side → ℕ → Reach → S → Ways → Stepped S
+slipped side now reach s ways = record {
   end = s;
   ways = ways;
   entries = slip_of side now ways ∷ [];
   went = answer.Slip;
-  calls = 0;
+  reach = reach;
 }
 
--- what ends a step whose disk stops: its power is lost there, or there is no room for the call
-abbrev pub stopped_for : Side → (is_cut : Bool) → WorldStep
-stopped_for side true = answer.PowerLost side
-stopped_for side false = answer.Turns
+-- a disk that has stopped goes no further
+abbrev pub no_reach : Reach
+no_reach = record { cut = 0; room = none_asked }
 
 -- or its disk stops at a call: what was noted by then stands, and nothing is sent
-abbrev pub stopped_at :
-    {S C : Type 0} → Machine S C → Side → ℕ → ℕ → Bool → CutChoice → Input C → S → Ways → Loss S → Stepped S
-stopped_at machine side now call is_cut choice input s ways loss = record {
+abbrev pub stopped_at : {S : Type 0} → Side → ℕ → CutChoice → Ways → WorldStep → Loss S → Stepped S
+stopped_at side now choice ways went loss = record {
   end = loss.left choice;
   ways = ways;
   entries = entries_of side now loss.front;
-  went = stopped_for side is_cut;
-  calls = call;
+  went = went;
+  reach = no_reach;
 }
 
-abbrev pub made_by :
-    {S C : Type 0} → Machine S C → Side → ℕ → ℕ → Bool → CutChoice → Input C → S → Ways → Option (Loss S) → Stepped S
-made_by machine side now call is_cut choice input s ways None =
-    made machine side now input s ways (machine.act s input now)
-made_by machine side now call is_cut choice input s ways (Some loss) =
-    stopped_at machine side now call is_cut choice input s ways loss
+-- its power is lost there, or there is no room for the call
+abbrev pub stopped_for : Side → (is_lost : Bool) → WorldStep
+stopped_for side true = answer.PowerLost side
+stopped_for side false = answer.Turns
 
--- its disk stops at this call, counted from 1, of those that are to come: there its power goes, or there is no room for
--- one more
+abbrev pub made_by :
+    {S C : Type 0} → Machine S C → Side → ℕ → CutChoice → Input C → S → Ways → Passing S → Stepped S
+made_by machine side now choice input s ways (Passes left) =
+    made machine side now left input s ways (machine.act s input now)
+made_by machine side now choice input s ways (Cuts loss) = stopped_at side now choice ways (stopped_for side true) loss
+made_by machine side now choice input s ways (Lacks loss) =
+    stopped_at side now choice ways (stopped_for side false) loss
+
+-- one step of an end whose disk goes so far
 abbrev pub stepped :
-    {S C : Type 0} → Machine S C → Side → ℕ → ℕ → Bool → CutChoice → Input C → S → Ways → Stepped S
-stepped machine side now call is_cut choice input s ways =
-    if slips machine side now input s ways then slipped side now s ways
-    else made_by machine side now call is_cut choice input s ways (call_of call (machine.losses s input now))
+    {S C : Type 0} → Machine S C → Side → ℕ → Reach → CutChoice → Input C → S → Ways → Stepped S
+stepped machine side now reach choice input s ways =
+    if slips machine side now input s ways then slipped side now reach s ways
+    else made_by machine side now choice input s ways (passing reach (machine.losses s input now))

@@ -1,26 +1,23 @@
 -- When a step that is asked for leaves a run no turn (this profile).
-use Rattle.std.specs.Prelude.{◌≡◌, ◌↔◌, ◌⊎◌, false}
+use Rattle.std.specs.Prelude.{◌≡◌, ◌↔◌, ◌⊎◌}
 use Rattle.gl_base.specs.declared.side.Side.TheVariants.{Equipment, Host}
 use Rattle.message_end.specs.Ends.{Input, Machine}
 use Rattle.trace_log.specs.declared.commands.HostCommand.{HostCommand}
 use Rattle.trace_log.specs.declared.commands.ToolCommand.{ToolCommand}
 use Rattle.end_pair.specs.declared.answers.WorldStep.TheVariants.{Turns}
-use Rattle.end_pair.specs.Laws.{StopsAt}
-use Rattle.end_pair.specs.World.{World, equipment_stepped, host_stepped, is_to_lose, most_steps}
+use Rattle.end_pair.specs.Laws.{LacksRoom}
+use Rattle.end_pair.specs.World.{World, equipment_stepped, host_stepped, most_steps}
 
 -- a step is asked for behind the last one that a run makes
 abbrev pub IsBehindLast : {E H : Type 0} → World E H → Type 0
 IsBehindLast world = world.steps ≡ most_steps
 
--- in a step the disk of an end has no room for a call, and no cut has the power go there
+-- in a step the disk of an end has no room for a call or for its bytes, and no cut has the power go there or before
 abbrev pub FindsNoRoom : {E H : Type 0} → Machine E ToolCommand → World E H → Input ToolCommand → Type 0
-FindsNoRoom e world input =
-    (is_to_lose Equipment world.is_cut ≡ false)
-    × StopsAt e Equipment world.moment world.left input world.equipment world.ways
+FindsNoRoom e world input = LacksRoom e Equipment world.moment world.reach input world.equipment world.ways
 
 abbrev pub HostFindsNoRoom : {E H : Type 0} → Machine H HostCommand → World E H → Input HostCommand → Type 0
-HostFindsNoRoom h world input =
-    (is_to_lose Host world.is_cut ≡ false) × StopsAt h Host world.moment world.host_left input world.host world.ways
+HostFindsNoRoom h world input = LacksRoom h Host world.moment world.host_reach input world.host world.ways
 
 -- there is no turn left exactly for one of these, whichever end is to make the step
 pub record TurnsByCause {E H : Type 0} (e : Machine E ToolCommand) (h : Machine H HostCommand) (world : World E H)

@@ -61,7 +61,8 @@ sender = record {
   asks = λ s input now. none_asked;
   start_asks = none_asked;
   losses = λ s input now. [];
-  start_calls = λ s. 0;
+  first_use = λ s. none_asked;
+  anew_use = λ s. none_asked;
 }
 
 abbrev pub begins : Side → Option BlockView → Step Sender Happening
@@ -123,7 +124,7 @@ counter_asks (suc n) = record { calls = 1; bytes = 1 }
 
 abbrev pub counter_losses : ℕ → ℕ → List (Loss Counter)
 counter_losses count zero = []
-counter_losses count (suc n) = record { front = Gone count ∷ []; left = counted_left count } ∷ []
+counter_losses count (suc n) = record { bytes = 1; front = Gone count ∷ []; left = counted_left count } ∷ []
 
 -- it tells its count as the base of its numbers
 abbrev pub counts_on : Side → ℕ → Happening
@@ -142,8 +143,9 @@ counter side = record {
   asks = λ s input now. counter_asks s.awake;
   start_asks = none_asked;
   losses = λ s input now. counter_losses s.count s.awake;
-  -- so there is room for one more
-  start_calls = λ s. 65535;
+  -- so there is room for one more at first, and for the bytes of two behind a start anew
+  first_use = λ s. record { calls = 65535; bytes = 0 };
+  anew_use = λ s. record { calls = 0; bytes = 67108862 };
 }
 
 abbrev pub counts_from : Side → Step Counter Happening
@@ -163,6 +165,11 @@ counters_with host events =
 
 abbrev pub counters_after : List Event → Piece Counter Counter
 counters_after = counters_with (counter Host)
+
+-- both lose their power, and count on until one finds no room
+abbrev pub crowding : List Event
+crowding =
+    event.Cut 1 Old ∷ event.Wait 5 ∷ event.HostCut 1 Old ∷ event.Wait 5 ∷ event.Wait 5 ∷ event.Wait 5 ∷ []
 
 -- the power goes at the call of a wait, and the host doesn't wait: the store is done by `new` alone; a cut in front of
 -- another one is replaced; where nothing is stored power is lost at the end of the event; and the last one does
@@ -221,6 +228,14 @@ pub record WorkedHostLosses : Type 0 where
       (counters_after (event.Wait 5 ∷ event.HostCut 1 New ∷ event.Lose Host 1 ∷ event.Wait 5 ∷ [])).entries
       ≡ Noted 10 Equipment (Gone 1) ∷ Noted 5 Host (counts_on Host 1) ∷ Noted 5 Host Power ∷ Noted 5 Host (Stored 0)
       ∷ Noted 5 Equipment (Stored 0) ∷ []
+  -- behind a start anew there is room for the bytes of two counts, though for many more calls
+  pub crowded :
+      (counters_after crowding).entries
+      ≡ Noted 20 Equipment (Gone 2) ∷ Noted 15 Host (Stored 0) ∷ Noted 15 Equipment (Stored 1)
+      ∷ Noted 10 Host (counts_on Host 0) ∷ Noted 10 Host Power ∷ Noted 10 Host (Gone 0)
+      ∷ Noted 10 Equipment (Stored 0) ∷ Noted 5 Equipment (EquipmentStarted [] 0) ∷ Noted 5 Equipment Power
+      ∷ Noted 5 Equipment (Gone 0) ∷ []
+  pub no_turn : (counters_after crowding).went ≡ answer.Turns
   -- a step that fills its store ends the run, where its disk isn't stopped before
   pub full : (counters_with full_counter (event.Wait 5 ∷ [])).went ≡ answer.JournalFull
   pub lost :

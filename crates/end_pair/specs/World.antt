@@ -1,17 +1,16 @@
 -- The world of two ends and the line between them, under a schedule (this profile).
-use Rattle.std.specs.Prelude.{zero, suc, ℕ, ◌+◌, ◌-◌, ◌==◌, nat_le, Bool, true, false, List, [], ◌∷◌, ◌++◌, drop, Option, Some, None, if◌then◌else◌}
+use Rattle.std.specs.Prelude.{zero, suc, ℕ, ◌+◌, ◌==◌, List, [], ◌∷◌, ◌++◌, drop, Option, Some, None, if◌then◌else◌}
 use Rattle.disk_base.specs.declared.cut.CutChoice.{CutChoice}
 use Rattle.disk_base.specs.declared.cut.CutChoice.TheVariants.{Old}
 use Rattle.gl_base.specs.declared.side.Side.{Side}
 use Rattle.gl_base.specs.declared.side.Side.TheVariants.{Equipment, Host}
-use Rattle.gl_base.specs.Side.{is_same_side}
 use Rattle.line_schedule.specs.declared.event.Event.{Event}
 use Rattle.line_schedule.specs.declared.event.Event.TheVariants as event
 use Rattle.line_way.specs.Kept.{direction_to, new_ways, with_change, with_direction, with_noise_to, without_power}
 use Rattle.line_way.specs.Ways.{Way, Ways, characters_of, is_under_way, next_byte}
 use Rattle.message_end.specs.Core.{Step, Went as WentTo}
 use Rattle.message_end.specs.Core.Went.{Goes, Spent}
-use Rattle.message_end.specs.Ends.{Input, Machine, calls_left}
+use Rattle.message_end.specs.Ends.{Input, Machine, Reach, reach_behind, with_cut}
 use Rattle.message_end.specs.Ends.Input.{Char, Command, Time}
 use Rattle.trace_log.specs.Laws.{log_with}
 use Rattle.trace_log.specs.Log.{Entry, Happening}
@@ -24,8 +23,7 @@ use Rattle.end_pair.specs.Steps.{Stepped, entries_of, stepped}
 
 -- both ends, both directions of the line between them, the moment in milliseconds, and how many steps the ends have
 -- made; which end's power goes in the next event, and at which call of its disk, counted from 1, where any goes; how
--- many calls of each end's disk are left up to the one at which it stops, itself counted; the end whose power goes
--- there, where it isn't for want of room that its disk stops; and what a loss of power leaves of the disk
+-- far each end's disk goes; and what a loss of power leaves of the disk
 pub record World (E H : Type 0) : Type 0 where
   pub equipment : E
   pub host : H
@@ -33,9 +31,8 @@ pub record World (E H : Type 0) : Type 0 where
   pub moment : ℕ
   pub steps : ℕ
   pub cut : Option (Side × ℕ)
-  pub left : ℕ
-  pub host_left : ℕ
-  pub is_cut : Option Side
+  pub reach : Reach
+  pub host_reach : Reach
   pub choice : CutChoice
 
 -- what some of a run leaves: the world, the entries that were made, the newest first, and how it went
@@ -102,11 +99,6 @@ later ms world = record world { moment = world.moment + ms }
 
 -- ---- the power
 
--- this end is the one whose power goes
-abbrev pub is_to_lose : Side → Option Side → Bool
-is_to_lose side None = false
-is_to_lose side (Some other) = is_same_side side other
-
 -- an end has no power: the line is empty both ways, but frames go on to be numbered, and what the other end has
 -- gathered stays with it
 abbrev pub darkened : {E H : Type 0} → Side → World E H → World E H
@@ -130,27 +122,22 @@ abbrev pub host_with : (E H : Type 0) (side : Side) → EndAt side E H → H →
 host_with E H Equipment end host = host
 host_with E H Host end host = end
 
--- so many calls of its disk are left
-abbrev pub calls_left_at : {E H : Type 0} → Side → World E H → ℕ
-calls_left_at side world = of_side side world.left world.host_left
+-- its disk goes so far
+abbrev pub reach_at : {E H : Type 0} → Side → World E H → Reach
+reach_at side world = of_side side world.reach world.host_reach
 
-abbrev pub with_left : {E H : Type 0} → Side → ℕ → World E H → World E H
-with_left side n world =
-    record world { left = of_side side n world.left; host_left = of_side side world.host_left n }
+abbrev pub with_reach : {E H : Type 0} → Side → Reach → World E H → World E H
+with_reach side reach world =
+    record world { reach = of_side side reach world.reach; host_reach = of_side side world.host_reach reach }
 
 -- its power is to go in the next event, and that of no other
 abbrev pub planned : {E H : Type 0} → Side → ℕ → CutChoice → World E H → World E H
 planned side call choice world = record world { cut = Some (side, call); choice = choice }
 
--- it is to go at this call of its disk, if that comes no later than the one at which it stops
+-- it is to go at this call of its disk
 abbrev pub armed : {E H : Type 0} → Side → ℕ → World E H → Piece E H
 armed side call world =
-    let within = nat_le call (calls_left_at side world) in
-    still
-    (record (with_left side (if within then call else calls_left_at side world) world) {
-      cut = None;
-      is_cut = if within then Some side else None;
-    })
+    still (record (with_reach side (with_cut call (reach_at side world)) world) { cut = None })
 
 module _ {E H : Type 0} (e : Machine E ToolCommand) (h : Machine H HostCommand) where
   -- both ends have started, the equipment first
@@ -164,9 +151,8 @@ module _ {E H : Type 0} (e : Machine E ToolCommand) (h : Machine H HostCommand) 
           moment = 0;
           steps = 0;
           cut = None;
-          left = calls_left e equipment.next;
-          host_left = calls_left h host.next;
-          is_cut = None;
+          reach = reach_behind (e.first_use equipment.next);
+          host_reach = reach_behind (h.first_use host.next);
           choice = Old;
         };
     entries = log_with 0 Host host.notes (log_with 0 Equipment equipment.notes []);
@@ -184,9 +170,8 @@ module _ {E H : Type 0} (e : Machine E ToolCommand) (h : Machine H HostCommand) 
           moment = world.moment;
           steps = world.steps + 1;
           cut = world.cut;
-          left = world.left - step.calls;
-          host_left = world.host_left;
-          is_cut = world.is_cut;
+          reach = step.reach;
+          host_reach = world.host_reach;
           choice = world.choice;
         };
     entries = step.entries;
@@ -203,9 +188,8 @@ module _ {E H : Type 0} (e : Machine E ToolCommand) (h : Machine H HostCommand) 
           moment = world.moment;
           steps = world.steps + 1;
           cut = world.cut;
-          left = world.left;
-          host_left = world.host_left - step.calls;
-          is_cut = world.is_cut;
+          reach = world.reach;
+          host_reach = step.reach;
           choice = world.choice;
         };
     entries = step.entries;
@@ -214,8 +198,7 @@ module _ {E H : Type 0} (e : Machine E ToolCommand) (h : Machine H HostCommand) 
 
   abbrev pub equipment_makes : Input ToolCommand → World E H → Stepped E
   equipment_makes input world =
-      stepped e Equipment world.moment world.left (is_to_lose Equipment world.is_cut) world.choice input
-      world.equipment world.ways
+      stepped e Equipment world.moment world.reach world.choice input world.equipment world.ways
 
   abbrev pub equipment_stepped : Input ToolCommand → World E H → Piece E H
   equipment_stepped input world =
@@ -223,8 +206,7 @@ module _ {E H : Type 0} (e : Machine E ToolCommand) (h : Machine H HostCommand) 
 
   abbrev pub host_makes : Input HostCommand → World E H → Stepped H
   host_makes input world =
-      stepped h Host world.moment world.host_left (is_to_lose Host world.is_cut) world.choice input world.host
-      world.ways
+      stepped h Host world.moment world.host_reach world.choice input world.host world.ways
 
   abbrev pub host_stepped : Input HostCommand → World E H → Piece E H
   host_stepped input world =
@@ -277,16 +259,15 @@ module _ {E H : Type 0} (e : Machine E ToolCommand) (h : Machine H HostCommand) 
   happened (event.HostCut call choice) world = still (planned Host call choice world)
 
   -- an end has started anew: its disk has made no calls but those of the start, and none is planned
-  abbrev pub calls_left_of : (side : Side) → EndAt side E H → ℕ
-  calls_left_of Equipment end = calls_left e end
-  calls_left_of Host end = calls_left h end
+  abbrev pub reach_of : (side : Side) → EndAt side E H → Reach
+  reach_of Equipment end = reach_behind (e.anew_use end)
+  reach_of Host end = reach_behind (h.anew_use end)
 
   abbrev pub with_started : (side : Side) → EndAt side E H → World E H → World E H
   with_started side end world =
-      record (with_left side (calls_left_of side end) world) {
+      record (with_reach side (reach_of side end) world) {
         equipment = equipment_with E H side end world.equipment;
         host = host_with E H side end world.host;
-        is_cut = None;
       }
 
   -- that an end has lost its power is noted, and it starts anew at the same moment with what is left of it, if there

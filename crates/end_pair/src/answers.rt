@@ -10,7 +10,7 @@ pub enum RunEnd {
     /// The trace was written up to the first block whose characters are no frame's.
     Slip,
     /// The trace was written up to the last of 4,000,000 steps, and a step was left; or up to a call of an end's disk
-    /// that would be more than 65,536 since that was made or lost its power.
+    /// that would be more than 65,536 since that was made or lost its power, or would pass 64 MiB that are written.
     Turns,
     /// The trace was written up to the step in which an end was to draw a number and had none.
     NumbersSpent,

@@ -16,8 +16,8 @@ ghost use Rattle.end_pair.specs.WorkedSteps.{StepsEndOnce};
 use message_end::End;
 use trace_log::{HostCommand, ToolCommand};
 
-/// A run makes 4,000,000 steps at most, and has no turn left only with all of them made, or with no call left of the
-/// disk of an end.
+/// A run makes 4,000,000 steps at most, and has no turn left only with all of them made, or where the disk of an end
+/// goes no further.
 pub fn runs_are_bounded<E: End<Command = ToolCommand>, H: End<Command = HostCommand>>()
     ensures { RunsAreBounded E.State H.State }
 {}

@@ -1,6 +1,6 @@
 //! What becomes of the world in an event in which an end's power goes: the loss, the empty line, and the start anew.
 
-ghost use Rattle.std.specs.Prelude.{◌≡◌, None, Some, if◌then◌else◌};
+ghost use Rattle.std.specs.Prelude.{◌≡◌, None, Some};
 ghost use Rattle.end_pair.specs.Kept.{IsDark, Makes, MayHappen, MayLose, kept, seen};
 ghost use Rattle.line_way.specs.Kept.{without_power};
 ghost use Rattle.end_pair.specs.World.{World as WorldOf, again, armed, met, planned, without};
@@ -82,12 +82,8 @@ impl<E: End<Command = ToolCommand>, H: End<Command = HostCommand>> World<E, H> {
             (seen E.means H.means self.old) }
     {
         match side {
-            Side::Equipment => {
-                self.equipment.arm(0);
-            }
-            Side::Host => {
-                self.host.arm(0);
-            }
+            Side::Equipment => self.equipment.arm(0),
+            Side::Host => self.host.arm(0),
         }
     }
 
@@ -114,8 +110,8 @@ impl<E: End<Command = ToolCommand>, H: End<Command = HostCommand>> World<E, H> {
     {
         self.cut = None;
         match side {
-            Side::Equipment => self.is_cut = side_if(side, self.equipment.arm(call)),
-            Side::Host => self.is_cut = side_if(side, self.host.arm(call)),
+            Side::Equipment => self.equipment.arm(call),
+            Side::Host => self.host.arm(call),
         }
     }
 
@@ -152,7 +148,6 @@ impl<E: End<Command = ToolCommand>, H: End<Command = HostCommand>> World<E, H> {
             lines.old lines.new result }
     {
         empty_line(side, &mut self.ways);
-        self.is_cut = None;
         match side {
             Side::Equipment => restart_end(
                 alloc,
@@ -180,10 +175,4 @@ fn empty_line(side: Side, ways: &mut Ways)
     ensures count { ways.new.written ≡ ways.old.written }
 {
     ways.empty(side);
-}
-
-fn side_if(side: Side, is_it: bool) -> Option<Side>
-    ensures { result ≡ (if is_it then Some side else None) }
-{
-    if is_it { Some(side) } else { None }
 }

@@ -5,7 +5,7 @@ ghost use Rattle.disk_base.specs.declared.cut.CutChoice.{CutChoice};
 ghost use Rattle.gl_base.specs.declared.side.Side.{Side};
 ghost use Rattle.line_end.specs.Step.{is_due};
 ghost use Rattle.line_way.specs.Kept.{IsSlipOf, direction_to, gathered_with_next, makes_slip_in};
-ghost use Rattle.message_end.specs.Ends.{MayTake, Opens, calls_left, input_of};
+ghost use Rattle.message_end.specs.Ends.{MayTake, Opens, input_of, reach_behind};
 ghost use Rattle.std.specs.List.{flat_map};
 ghost use Rattle.message_end.specs.Core.{step_in};
 ghost use Rattle.trace_log.specs.Log.Entry.{Slipped};
@@ -39,7 +39,7 @@ pub(crate) fn start_end<E: End>(
     requires opens { Opens (E.start plan.now store) }
     ensures end { IfOk result (λ end. E.means end ≡ (step_in (E.start plan.now store)).next) }
     ensures sound { IfOk result (λ end. E.sound end) }
-    ensures planned { IfOk result (λ end. E.planned end ≡ calls_left E.machine (E.means end)) }
+    ensures reach { IfOk result (λ end. E.reach end ≡ reach_behind (E.machine.first_use (E.means end))) }
     ensures going { IfOk result (λ end. E.stopped end ≡ false) }
     ensures lines { OnOk result (lines.new
         ≡ lines.old ++ text_of (entries_of side 0 (step_in (E.start plan.now store)).notes)) }
@@ -71,7 +71,6 @@ pub(crate) fn step_end<E: End>(
     alloc: Global,
     now: u64,
     side: Side,
-    is_cut: bool,
     input: NodeInput<'_, E::Command>,
     end: &mut E,
     ways: &mut Ways,
@@ -83,24 +82,24 @@ pub(crate) fn step_end<E: End>(
     requires count { ways.old.written < 2 ^ 62 }
     ensures lines { (choice : CutChoice) →
         let step = stepped
-        E.machine side now (E.planned end.old) is_cut choice (input_of input.entry) (E.means end.old) ways.old in
+        E.machine side now (E.reach end.old) choice (input_of input.entry) (E.means end.old) ways.old in
         Puts step.went (text_of step.entries) lines.old lines.new result }
     ensures end { (choice : CutChoice) →
         let step = stepped
-        E.machine side now (E.planned end.old) is_cut choice (input_of input.entry) (E.means end.old) ways.old in
+        E.machine side now (E.reach end.old) choice (input_of input.entry) (E.means end.old) ways.old in
         IfLeft result
         (E.means end.new ≡ step.end)
         (λ lost. (later : ℕ) → E.anew end.new choice later ≡ E.machine.restart step.end later) }
     ensures ways { (choice : CutChoice) →
         let step = stepped
-        E.machine side now (E.planned end.old) is_cut choice (input_of input.entry) (E.means end.old) ways.old in
+        E.machine side now (E.reach end.old) choice (input_of input.entry) (E.means end.old) ways.old in
         IfLeft result (ways.new ≡ step.ways) (λ lost. ways.new ≡ step.ways) }
-    ensures planned { (choice : CutChoice) →
+    ensures reach { (choice : CutChoice) →
         let step = stepped
-        E.machine side now (E.planned end.old) is_cut choice (input_of input.entry) (E.means end.old) ways.old in
-        IfWent result (E.planned end.new ≡ E.planned end.old - step.calls) }
+        E.machine side now (E.reach end.old) choice (input_of input.entry) (E.means end.old) ways.old in
+        IfWent result (E.reach end.new ≡ step.reach) }
     ensures going { IfWent result (E.stopped end.new ≡ false) }
-    ensures powered { is_cut ≡ false → IsPowered result }
+    ensures powered { (E.reach end.old).cut ≡ 0 → IsPowered result }
     ensures sound { E.sound end.new }
     ensures count { ways.new.written ≤ ways.old.written + 1 }
 {
@@ -121,7 +120,8 @@ pub(crate) fn step_end<E: End>(
         }
         Err(Stop::Full) => return put_spent(now, side, true, out.notes.as_slice(), lines),
         Err(Stop::DiskFailed) => {
-            return put_stopped(now, side, is_cut, out.notes.as_slice(), lines);
+            let is_lost = end.has_stopped();
+            return put_stopped(now, side, is_lost, out.notes.as_slice(), lines);
         }
         Err(Stop::NoMemory) => return WorldStep::NoMemory,
     }
@@ -149,7 +149,7 @@ pub(crate) fn restart_end<E: End>(
         Puts (gone went) (text_of (entries_of side now (Power ∷ (step_in went).notes)))
         lines.old lines.new result }
     ensures end { IfWent result (E.means end.new ≡ (step_in (E.anew end.old choice now)).next) }
-    ensures planned { IfWent result (E.planned end.new ≡ calls_left E.machine (E.means end.new)) }
+    ensures reach { IfWent result (E.reach end.new ≡ reach_behind (E.machine.anew_use (E.means end.new))) }
     ensures going { IfWent result (E.stopped end.new ≡ false) }
     ensures sound { E.sound end.new }
     ensures powered { IsPowered result }
@@ -234,13 +234,20 @@ fn put_spent(now: u64, side: Side, fills: bool, notes: &[Note], lines: &mut Row<
     }
 }
 
-// Puts the lines of a step whose disk has stopped: its power is lost, or there is no room for a call.
-fn put_stopped(now: u64, side: Side, is_cut: bool, notes: &[Note], lines: &mut Row<u8>) -> WorldStep
-    ensures puts { Puts (stopped_for side is_cut) (flat_map (note_line now side) notes.now) lines.old lines.new result }
-    ensures powered { is_cut ≡ false → IsPowered result }
+// Puts the lines of a step that its disk has stopped: its power is lost, or there is no room for a call.
+fn put_stopped(
+    now: u64,
+    side: Side,
+    is_lost: bool,
+    notes: &[Note],
+    lines: &mut Row<u8>,
+) -> WorldStep
+    ensures puts { Puts (stopped_for side is_lost) (flat_map (note_line now side) notes.now)
+        lines.old lines.new result }
+    ensures powered { is_lost ≡ false → IsPowered result }
 {
     match put_notes(now, side, notes, lines) {
-        Ok(()) if is_cut => WorldStep::PowerLost(side),
+        Ok(()) if is_lost => WorldStep::PowerLost(side),
         Ok(()) => WorldStep::Turns,
         Err(NoMemory) => WorldStep::NoMemory,
     }

@@ -9,7 +9,7 @@ ghost use Rattle.trace_log.specs.Text.{text_of};
 ghost use Rattle.end_pair.specs.Kept.{IfWent, IsDark, IsPowered, Makes, MayHappen, MayLose, PutPart, Puts, begun_by, kept, seen};
 ghost use Rattle.line_way.specs.Kept.{direction_to, with_direction, without_power};
 ghost use Rattle.line_way.specs.Ways.{characters_of, is_under_way};
-ghost use Rattle.end_pair.specs.World.{World as WorldOf, added_to, after_event, again, armed, at_start, begun, both_stepped, changed_at, equipment_stepped, given, given_times, happened, host_stepped, is_to_lose, later, lost, lost_from, met, planned, settled, settled_times, way_to, without};
+ghost use Rattle.end_pair.specs.World.{World as WorldOf, added_to, after_event, again, armed, at_start, begun, both_stepped, changed_at, equipment_stepped, given, given_times, happened, host_stepped, later, lost, lost_from, met, planned, settled, settled_times, way_to, without};
 ghost use Rattle.end_pair.specs.declared.answers.WorldStep.TheVariants as answer;
 
 use crate::answers::WorldStep;
@@ -40,10 +40,8 @@ pub struct World<E: End, H: End> {
     pub(crate) ways: Ways,
     pub(crate) moment: u64,
     steps: u32,
-    // which end's power goes in the next event, and at which call of its disk; whose power goes at the one at which its
-    // disk is to stop; and what that leaves of the disk
+    // which end's power goes in the next event, and at which call of its disk; and what that leaves of the disk
     pub(crate) cut: Option<(Side, u32)>,
-    pub(crate) is_cut: Option<Side>,
     pub(crate) choice: CutChoice,
 }
 
@@ -61,9 +59,8 @@ impl<E: End, H: End> Model for World<E, H> {
       moment = w.moment;
       steps = w.steps;
       cut = w.cut;
-      left = E.planned w.equipment;
-      host_left = H.planned w.host;
-      is_cut = w.is_cut;
+      reach = E.reach w.equipment;
+      host_reach = H.reach w.host;
       choice = w.choice;
     } };
 
@@ -164,7 +161,6 @@ impl<E: End<Command = ToolCommand>, H: End<Command = HostCommand>> World<E, H> {
             moment: 0,
             steps: 0,
             cut: None,
-            is_cut: None,
             choice: CutChoice::Old,
         })
     }
@@ -395,7 +391,6 @@ impl<E: End<Command = ToolCommand>, H: End<Command = HostCommand>> World<E, H> {
             alloc,
             self.moment,
             Side::Equipment,
-            is_to_lose(Side::Equipment, self.is_cut),
             input,
             &mut self.equipment,
             &mut self.ways,
@@ -426,7 +421,6 @@ impl<E: End<Command = ToolCommand>, H: End<Command = HostCommand>> World<E, H> {
             alloc,
             self.moment,
             Side::Host,
-            is_to_lose(Side::Host, self.is_cut),
             input,
             &mut self.host,
             &mut self.ways,
@@ -463,14 +457,5 @@ fn lose_from(ways: &mut Ways, side: Side, n: u32)
     'characters: while left > 0 && ways.is_under_way(side) {
         ways.lose(side);
         left -= 1;
-    }
-}
-
-fn is_to_lose(side: Side, is_cut: Option<Side>) -> bool
-    ensures { result ≡ is_to_lose side is_cut }
-{
-    match is_cut {
-        Some(other) => side == other,
-        None => false,
     }
 }

@@ -65,7 +65,7 @@ module _ (plans : Plans) (schedule : Schedule) (fit : PlansFit plans) (laws : La
     -- the disk of a run is new
     none : MayHold (empty_file plans.slots)
     none = record {
-      run = omega arith;
+      chain = omega arith;
       room = omega arith;
       bound = omega arith;
       floor = omega arith;

@@ -6,6 +6,7 @@ mod Carried
 mod Claims
 mod CutSteps
 mod Disks
+mod Emptied
 mod Events
 mod FewCalls
 mod Lines

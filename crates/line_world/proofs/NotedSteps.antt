@@ -1,6 +1,6 @@
 -- That the notes of a step are of one moment, and that behind them its end is noted: by the steps that the moves of a
 -- run come in.
-use Rattle.std.proofs.Common.{◌≡◌, ◌⊎◌, inl, inr, refl, sym, ap, subst, ◌∙◌, ℕ, Bool, true, false, List, [], ◌∷◌, ◌++◌, Option, Some, None, if◌then◌else◌}
+use Rattle.std.proofs.Common.{◌≡◌, inl, inr, refl, sym, ap, subst, ◌∙◌, ℕ, Bool, true, false, List, [], ◌∷◌, ◌++◌, Option, Some, None, if◌then◌else◌}
 use Rattle.end_pair.specs.InSteps.{AreOfWholeStep, AreSteps, ComeInSteps, IsCutBehind, IsFate, moves_with, power_at, started_at, with_wrote}
 use Rattle.end_pair.specs.InSteps.AreSteps.{both_start, line_changes, one_step, starts_anew}
 use Rattle.end_pair.specs.InSteps.ComeInSteps.{at_a_step, in_a_step, without_power}

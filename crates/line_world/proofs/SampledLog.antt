@@ -17,7 +17,7 @@ use Rattle.equipment_tables.specs.declared.plan.EquipmentPlan.{EquipmentPlan}
 use Rattle.equipment_tables.specs.Laws.{TablesAreLookedBackFor}
 use Rattle.equipment_tables.specs.Plan.{EquipmentPlanFits}
 use Rattle.tool_step.specs.End.{machine}
-use Rattle.tool_step.specs.Equipment.{EquipmentView, act, is_marked_out, restarts, started_on, starts}
+use Rattle.tool_step.specs.Equipment.{EquipmentView, act, is_marked_out, restarts, started_on, starts, unstarted}
 use Rattle.tool_step.specs.Losses.{losses}
 use Rattle.tool_law.specs.Sound.{AllCanBeSent}
 use Rattle.tool_reports.specs.LookedBack.{HasWhatWasSet}
@@ -127,9 +127,7 @@ module _ (plan : EquipmentPlan) where
       go (is_marked_out file.mark.value) is
     where
       went : Bool → FileWent
-      went spent =
-          if spent then Spent (at_first (record (started_on other file).next { file = file }))
-          else Goes (started_on other file)
+      went spent = if spent then Spent (at_first (unstarted other file)) else Goes (started_on other file)
 
       here : TimedNotes
       here = timed_behind now (started_on other file).notes before

@@ -1,5 +1,5 @@
 -- What the equipment's doings keep at the end of each step, they keep at each move of a run.
-use Rattle.std.proofs.Common.{ℕ, List, [], ◌∷◌}
+use Rattle.std.proofs.Common.{ℕ, List, ◌∷◌}
 use Rattle.end_pair.specs.InSteps.{ComeInSteps, IsFate}
 use Rattle.end_pair.proofs.AtEachMove.{AreKept, at-each-move}
 use Rattle.tool_step.specs.Equipment.{EquipmentView}

@@ -1,21 +1,25 @@
--- That the disk of the tool's spool finds no room for a call only behind many calls since a start (this profile).
-use Rattle.std.specs.Prelude.{◌<◌, ◌≤◌, ◌+◌, ◌-◌, ℕ}
+-- That the disk of the tool's spool finds no room for a call, or for its bytes, only behind many since a start (this
+-- profile).
+use Rattle.std.specs.Prelude.{◌≡◌, ◌⊎◌, ◌<◌, ◌≤◌, length}
 use Rattle.end_pair.specs.TurnCauses.{FindsNoRoom}
 use Rattle.end_pair.specs.World.{World}
-use Rattle.message_end.specs.Ends.{Input, calls_left}
+use Rattle.message_end.specs.Ends.{Asked, Input, asked_both, most_asked, room_behind}
 use Rattle.tool_step.specs.Disk.{asks}
 use Rattle.tool_step.specs.End.{machine}
 use Rattle.tool_step.specs.Equipment.{EquipmentView}
 use Rattle.trace_log.specs.declared.commands.ToolCommand.{ToolCommand}
 
--- how many calls the disk has made behind a start of the tool, in a world where so many of those behind it are left
-abbrev pub calls_since : {H : Type 0} → EquipmentView → World EquipmentView H → ℕ
-calls_since start world = calls_left machine start - world.left
+-- how much was asked of the disk behind a start of the tool which has used so much, in a world where so much room is
+-- left
+abbrev pub asked_since : {H : Type 0} → Asked → World EquipmentView H → Asked
+asked_since used world = room_behind (room_behind most_asked used) world.reach.room
 
--- where these, with those of the step that is asked for, are fewer than 32,768, there is room, whatever they write
+-- where this, with the calls of the step that is asked for, is fewer than 32,768 calls that write less than 32 MiB,
+-- there is room; each message that a start finds has a slot of its own
 abbrev pub FewCallsFindRoom : Type 0 → Type 0
 FewCallsFindRoom H =
-    (start : EquipmentView) (world : World EquipmentView H) (input : Input ToolCommand)
-    → start.file.slots ≤ 1024
-    → calls_since start world + (asks world.equipment input world.moment).calls < 32768
-    → FindsNoRoom machine world input → ⊥
+    (start : EquipmentView) (used : Asked) (world : World EquipmentView H) (input : Input ToolCommand)
+    → (used ≡ machine.first_use start) ⊎ (used ≡ machine.anew_use start)
+    → start.file.slots ≤ 1024 → length start.file.list ≤ start.file.slots
+    → let asked = asked_both (asked_since used world) (asks world.equipment input world.moment) in
+    asked.calls < 32768 → asked.bytes < 33554432 → FindsNoRoom machine world input → ⊥

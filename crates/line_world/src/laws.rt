@@ -26,8 +26,8 @@ pub fn replies_go_in_steps()
     ensures { SafeLogsReplyInSteps }
 {}
 
-/// While the disk of the tool makes fewer than 32,768 calls behind a start, those of the step that is asked for among
-/// them, a run has a turn left for all that is the disk's.
+/// While the disk of the tool makes fewer than 32,768 calls behind a start, and these write less than 32 MiB, those of
+/// the step that is asked for among them, a run has a turn left for all that is the disk's.
 pub fn few_calls_find_room<H>()
     ensures { FewCallsFindRoom H }
 {

@@ -12,6 +12,8 @@ returns c = record {
   behind = refl;
   emptied = refl;
   counted_on = refl;
+  crowded = refl;
+  no_turn = refl;
   full = refl;
   lost = refl;
 }

@@ -18,13 +18,12 @@ returns-in-Equipment g c =
       moment = c.self.inside.moment;
       steps = c.self.inside.steps;
       cut = c.self.inside.cut;
-      left = g.E.End.planned c.self.inside.equipment;
-      host_left = g.H.End.planned c.self.inside.host;
-      is_cut = c.self.inside.is_cut;
+      reach = g.E.End.reach c.self.inside.equipment;
+      host_reach = g.H.End.reach c.self.inside.host;
       choice = c.self.inside.choice;
     }
     in
-    let now : World _ _ = record was { equipment = c.arm.new.self; left = g.E.End.planned c.arm.new.self } in
+    let now : World _ _ = record was { equipment = c.arm.new.self; reach = g.E.End.reach c.arm.new.self } in
     subst (λ (side : Side). IsDark e h side now (seen e.means h.means c.args.self.now)) (sym c.in-Equipment.is)
     (subst (λ (w : World _ _). IsDark e h Equipment now (seen e.means h.means w)) c.self.view_is
     (record {
@@ -32,7 +31,7 @@ returns-in-Equipment g c =
         λ moment.
             g.met.E.End.settled c.arm.new.self c.arm.ensures.sound c.arm.ensures.going was.choice moment
             ∙ ap (λ (s : g.E.End.State). e.machine.restart s moment) c.arm.ensures.means,
-        record { end_is = refl; left_is = refl },
+        record { end_is = refl; reach_is = refl },
       );
       ways = refl;
       moment = refl;
@@ -52,14 +51,13 @@ returns-in-Host g c =
       moment = c.self.inside.moment;
       steps = c.self.inside.steps;
       cut = c.self.inside.cut;
-      left = g.E.End.planned c.self.inside.equipment;
-      host_left = g.H.End.planned c.self.inside.host;
-      is_cut = c.self.inside.is_cut;
+      reach = g.E.End.reach c.self.inside.equipment;
+      host_reach = g.H.End.reach c.self.inside.host;
       choice = c.self.inside.choice;
     }
     in
     let now : World _ _ =
-    record was { host = c.arm-in-Host.new.self; host_left = g.H.End.planned c.arm-in-Host.new.self }
+    record was { host = c.arm-in-Host.new.self; host_reach = g.H.End.reach c.arm-in-Host.new.self }
     in
     subst (λ (side : Side). IsDark e h side now (seen e.means h.means c.args.self.now)) (sym c.in-Host.is)
     (subst (λ (w : World _ _). IsDark e h Host now (seen e.means h.means w)) c.self.view_is
@@ -69,7 +67,7 @@ returns-in-Host g c =
             g.met.H.End.settled c.arm-in-Host.new.self c.arm-in-Host.ensures.sound c.arm-in-Host.ensures.going
             was.choice moment
             ∙ ap (λ (s : g.H.End.State). h.machine.restart s moment) c.arm-in-Host.ensures.means,
-        record { end_is = refl; left_is = refl },
+        record { end_is = refl; reach_is = refl },
       );
       ways = refl;
       moment = refl;

@@ -1,6 +1,6 @@
 -- The line is emptied and the end restarted, which is `again` of the definition.
 
-use Rattle.std.proofs.Common.{◌≡◌, None, subst, sym}
+use Rattle.std.proofs.Common.{◌≡◌, subst, sym}
 use Rattle.gl_base.specs.declared.side.Side.{Side}
 use Rattle.gl_base.specs.declared.side.Side.TheVariants.{Equipment, Host}
 use Rattle.line_way.specs.Kept.{without_power}
@@ -20,9 +20,8 @@ returns-in-Equipment g c =
       moment = c.self.inside.moment;
       steps = c.self.inside.steps;
       cut = c.self.inside.cut;
-      left = g.E.End.planned c.self.inside.equipment;
-      host_left = g.H.End.planned c.self.inside.host;
-      is_cut = c.self.inside.is_cut;
+      reach = g.E.End.reach c.self.inside.equipment;
+      host_reach = g.H.End.reach c.self.inside.host;
       choice = c.self.inside.choice;
     }
     in
@@ -30,8 +29,7 @@ returns-in-Equipment g c =
     record was {
       equipment = c.restart_end.new.end;
       ways = c.empty_line.new.ways;
-      left = g.E.End.planned c.restart_end.new.end;
-      is_cut = None;
+      reach = g.E.End.reach c.restart_end.new.end;
     }
     in
     subst (λ (w : World _ _).
@@ -43,11 +41,11 @@ returns-in-Equipment g c =
     → Makes e h (again e.machine h.machine side left) now c.args.lines.now c.restart_end.new.lines
     c.restart_end.result) (sym c.in-Equipment.is)
     (λ left dark.
-    equipment_again e h was left c.empty_line.new.ways (g.E.End.planned c.restart_end.new.end) c.restart_end.new.end
+    equipment_again e h was left c.empty_line.new.ways (g.E.End.reach c.restart_end.new.end) c.restart_end.new.end
     c.args.lines.now c.restart_end.new.lines c.restart_end.result dark
     (subst (λ (side : Side). c.empty_line.new.ways ≡ without_power side c.self.inside.ways) c.in-Equipment.is
     c.empty_line.ensures.ways)
-    c.restart_end.ensures.lines c.restart_end.ensures.end c.restart_end.ensures.planned))
+    c.restart_end.ensures.lines c.restart_end.ensures.end c.restart_end.ensures.reach))
 
 pub returns-in-Host : goal.returns-in-Host
 returns-in-Host g c =
@@ -60,9 +58,8 @@ returns-in-Host g c =
       moment = c.self.inside.moment;
       steps = c.self.inside.steps;
       cut = c.self.inside.cut;
-      left = g.E.End.planned c.self.inside.equipment;
-      host_left = g.H.End.planned c.self.inside.host;
-      is_cut = c.self.inside.is_cut;
+      reach = g.E.End.reach c.self.inside.equipment;
+      host_reach = g.H.End.reach c.self.inside.host;
       choice = c.self.inside.choice;
     }
     in
@@ -70,8 +67,7 @@ returns-in-Host g c =
     record was {
       host = c.restart_end-in-Host.new.end;
       ways = c.empty_line.new.ways;
-      host_left = g.H.End.planned c.restart_end-in-Host.new.end;
-      is_cut = None;
+      host_reach = g.H.End.reach c.restart_end-in-Host.new.end;
     }
     in
     subst (λ (w : World _ _).
@@ -83,9 +79,9 @@ returns-in-Host g c =
     → Makes e h (again e.machine h.machine side left) now c.args.lines.now c.restart_end-in-Host.new.lines
     c.restart_end-in-Host.result) (sym c.in-Host.is)
     (λ left dark.
-    host_again e h was left c.empty_line.new.ways (g.H.End.planned c.restart_end-in-Host.new.end)
+    host_again e h was left c.empty_line.new.ways (g.H.End.reach c.restart_end-in-Host.new.end)
     c.restart_end-in-Host.new.end c.args.lines.now c.restart_end-in-Host.new.lines c.restart_end-in-Host.result dark
     (subst (λ (side : Side). c.empty_line.new.ways ≡ without_power side c.self.inside.ways) c.in-Host.is
     c.empty_line.ensures.ways)
     c.restart_end-in-Host.ensures.lines c.restart_end-in-Host.ensures.end
-    c.restart_end-in-Host.ensures.planned))
+    c.restart_end-in-Host.ensures.reach))

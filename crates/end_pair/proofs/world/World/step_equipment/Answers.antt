@@ -26,9 +26,8 @@ returns g c =
       moment = c.self.inside.moment;
       steps = c.self.inside.steps;
       cut = c.self.inside.cut;
-      left = g.E.End.planned c.self.inside.equipment;
-      host_left = g.H.End.planned c.self.inside.host;
-      is_cut = c.self.inside.is_cut;
+      reach = g.E.End.reach c.self.inside.equipment;
+      host_reach = g.H.End.reach c.self.inside.host;
       choice = c.self.inside.choice;
     }
     in
@@ -38,7 +37,7 @@ returns g c =
       ways = c.step_end.new.ways;
       moment = c.self.inside.moment + c.from.result;
       steps = c.self.inside.steps + 1;
-      left = g.E.End.planned c.step_end.new.end;
+      reach = g.E.End.reach c.step_end.new.end;
     }
     in
     subst (λ (w : World _ _).
@@ -50,7 +49,7 @@ returns g c =
     Makes e h
     (equipment_stepped e.machine h.machine (input_of c.args.input) (later ms (seen e.means h.means was)))
     now c.args.lines.now c.step_end.new.lines c.step_end.result) c.from.ensures
-    (equipment_comes e h (input_of c.args.input) was (c.self.inside.moment + c.from.result) c.is_to_lose.result
-    c.step_end.new.end c.step_end.new.ways (g.E.End.planned c.step_end.new.end) c.args.lines.now
-    c.step_end.new.lines c.step_end.result c.is_to_lose.ensures c.if-self-eq-MOST_STEPS.false (c.step_end.ensures.lines was.choice)
-    (c.step_end.ensures.end was.choice, c.step_end.ensures.ways was.choice, c.step_end.ensures.planned was.choice)))
+    (equipment_comes e h (input_of c.args.input) was (c.self.inside.moment + c.from.result)
+    c.step_end.new.end c.step_end.new.ways (g.E.End.reach c.step_end.new.end) c.args.lines.now
+    c.step_end.new.lines c.step_end.result c.if-self-eq-MOST_STEPS.false (c.step_end.ensures.lines was.choice)
+    (c.step_end.ensures.end was.choice, c.step_end.ensures.ways was.choice, c.step_end.ensures.reach was.choice)))

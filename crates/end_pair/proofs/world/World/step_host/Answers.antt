@@ -1,6 +1,6 @@
 -- A step of the host, or none where all steps are made.
 
-use Rattle.std.proofs.Common.{◌+◌, ℕ, sym, ap, subst, ◌∙◌}
+use Rattle.std.proofs.Common.{◌+◌, sym, ap, subst, ◌∙◌}
 use Rattle.message_end.specs.Ends.{input_of}
 use Rattle.end_pair.specs.Kept.{Makes, kept, seen}
 use Rattle.end_pair.specs.World.{World, host_stepped}
@@ -25,9 +25,8 @@ returns g c =
       moment = c.self.inside.moment;
       steps = c.self.inside.steps;
       cut = c.self.inside.cut;
-      left = g.E.End.planned c.self.inside.equipment;
-      host_left = g.H.End.planned c.self.inside.host;
-      is_cut = c.self.inside.is_cut;
+      reach = g.E.End.reach c.self.inside.equipment;
+      host_reach = g.H.End.reach c.self.inside.host;
       choice = c.self.inside.choice;
     }
     in
@@ -36,13 +35,13 @@ returns g c =
       host = c.step_end.new.end;
       ways = c.step_end.new.ways;
       steps = c.self.inside.steps + 1;
-      host_left = g.H.End.planned c.step_end.new.end;
+      host_reach = g.H.End.reach c.step_end.new.end;
     }
     in
     subst (λ (w : World _ _).
     Makes e h (host_stepped e.machine h.machine (input_of c.args.input) (seen e.means h.means w)) now
     c.args.lines.now c.step_end.new.lines c.step_end.result) c.self.view_is
-    (host_comes e h (input_of c.args.input) was c.is_to_lose.result c.step_end.new.end c.step_end.new.ways
-    (g.H.End.planned c.step_end.new.end) c.args.lines.now c.step_end.new.lines c.step_end.result
-    c.is_to_lose.ensures c.if-self-eq-MOST_STEPS.false (c.step_end.ensures.lines was.choice)
-    (c.step_end.ensures.end was.choice, c.step_end.ensures.ways was.choice, c.step_end.ensures.planned was.choice))
+    (host_comes e h (input_of c.args.input) was c.step_end.new.end c.step_end.new.ways
+    (g.H.End.reach c.step_end.new.end) c.args.lines.now c.step_end.new.lines c.step_end.result
+    c.if-self-eq-MOST_STEPS.false (c.step_end.ensures.lines was.choice)
+    (c.step_end.ensures.end was.choice, c.step_end.ensures.ways was.choice, c.step_end.ensures.reach was.choice))
