@@ -10,7 +10,7 @@ use Rattle.message_end.specs.Core.{Step, at_first}
 use Rattle.message_end.specs.Core.Went.{Goes, Spent}
 use Rattle.equipment_tables.specs.declared.plan.EquipmentPlan.{EquipmentPlan}
 use Rattle.equipment_tables.specs.declared.plan.Plans.{Plans}
-use Rattle.tool_step.specs.Equipment.{EquipmentView, is_marked_out, started_on, starts}
+use Rattle.tool_step.specs.Equipment.{EquipmentView, is_marked_out, started_on, starts, unstarted}
 use Rattle.end_run.specs.Counts.{Counts}
 use Rattle.end_run.specs.Script.{ScriptLine}
 use Rattle.end_run.specs.declared.ending.Ending.{Ending}
@@ -46,15 +46,8 @@ no_start :
     → starts plan file ≡ Goes step → is_marked_out file.mark.value ≡ true → ⊥
 no_start plan file step goes out = unlike (sym (spent out) ∙ goes)
   where
-    spent : is_marked_out file.mark.value ≡ true
-        → starts plan file
-        ≡ Spent (at_first (record (started_on plan file).next { file = file }))
-    spent is =
-        ap
-        (λ (b : Bool).
-        if b then Spent (at_first (record (started_on plan file).next { file = file }))
-        else Goes (started_on plan file))
-        is
+    spent : is_marked_out file.mark.value ≡ true → starts plan file ≡ Spent (at_first (unstarted plan file))
+    spent is = ap (λ (b : Bool). if b then Spent (at_first (unstarted plan file)) else Goes (started_on plan file)) is
 
     unlike : {other : Step EquipmentView Happening} → Spent other ≡ Goes step → ⊥
     unlike is = cc

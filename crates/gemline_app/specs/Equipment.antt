@@ -8,6 +8,7 @@ use Rattle.gl_base.specs.declared.link.LinkIn.{LinkIn}
 use Rattle.gl_base.specs.declared.side.Side.TheVariants as side
 use Rattle.spool_show.specs.Told.{DiskTold}
 use Rattle.spool_file.specs.File.{SpoolFile, StandsFor, file_in, spool_break}
+use Rattle.spool_slots.specs.Files.{upgraded}
 use Rattle.trace_log.specs.Log.{Happening}
 use Rattle.trace_log.specs.declared.commands.ToolCommand.{ToolCommand}
 use Rattle.message_end.specs.Core.{Step}
@@ -126,8 +127,8 @@ pub record WasRunOn (plan : EquipmentPlan) (lines : List ScriptLine) (polls : �
       (s : Story) → disk.before ≡ Some s → RanOver plan (file_in s.now.bytes) lines polls disk link out ended
 
 -- why it didn't start, and what its disk holds then: the bytes stand for no spool, and are as they were; there are no
--- system bytes any more, and the file stands; the disk failed, and the bytes are as they were, or the file stands with
--- the old mark or the new one; memory ran out, and it stands so
+-- system bytes any more, and the file stands as one of version 2; the disk failed, and the bytes are as they were, or
+-- the file stands, as it was, or as one of version 2 with the old mark or the new one; memory ran out, and it stands so
 abbrev pub StartRefuses : BytesTold → Outcome → Type 0
 StartRefuses disk (NotSpool at) =
     (disk.faults_after ≡ disk.faults)
@@ -137,7 +138,7 @@ StartRefuses disk NumbersSpent =
     (disk.faults_after ≡ disk.faults)
     × ((s : Story) → disk.before ≡ Some s → (spool_break s.now.bytes ≡ None)
     × (is_marked_out (file_in s.now.bytes).mark.value ≡ true)
-    × ((t : Story) → disk.after ≡ Some t → EachImage (λ image. StandsFor image (file_in s.now.bytes)) t.now))
+    × ((t : Story) → disk.after ≡ Some t → EachImage (λ image. StandsFor image (upgraded (file_in s.now.bytes))) t.now))
 StartRefuses disk DiskFailed =
     Rose disk.faults disk.faults_after
     × ((s : Story) → disk.before ≡ Some s → (t : Story) → disk.after ≡ Some t

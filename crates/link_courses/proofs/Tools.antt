@@ -24,6 +24,7 @@ use Rattle.equipment_tables.specs.declared.plan.Plans.{Plans}
 use Rattle.equipment_tables.specs.Plan.{EquipmentPlanFits}
 use Rattle.spool_show.specs.Told.{DiskTold}
 use Rattle.spool_file.specs.File.{SpoolFile, file_in, spool_break}
+use Rattle.spool_file.proofs.Wholes.{sound_slots}
 use Rattle.tool_law.specs.Laws.{DidOf, EquipmentKeepsItsLaw}
 use Rattle.tool_law.specs.Tried.{AreTried}
 use Rattle.tool_reports.specs.Laws.{ReportsAreOfTheirEvents}
@@ -31,7 +32,7 @@ use Rattle.tool_spool.specs.LeavesInStep.{MessagesLeaveInStep}
 use Rattle.tool_spool.specs.MadeRoom.{OverwritesForPuts}
 use Rattle.tool_spool.specs.SpoolKept.{MayHold, SpoolIsKeptFrom}
 use Rattle.tool_step.specs.End.{machine}
-use Rattle.tool_step.specs.Equipment.{EquipmentView, is_marked_out, started_on, starts}
+use Rattle.tool_step.specs.Equipment.{EquipmentView, is_marked_out, started_on, starts, unstarted}
 use Rattle.tool_step.specs.Step.{end_plan}
 use Rattle.end_pair.specs.Noted.{noted_by}
 use Rattle.end_run.specs.Pieces.{Piece}
@@ -56,7 +57,7 @@ use Rattle.link_courses.proofs.Given.{run-given, script-brings}
 use Rattle.link_courses.proofs.Kept.{closing-keeps, first-keeps}
 use Rattle.link_courses.proofs.Lawful.{first-done}
 use Rattle.link_courses.proofs.Noting.{has-noted, there-first}
-use Rattle.link_courses.proofs.Numbered.{has-slots, may-hold}
+use Rattle.link_courses.proofs.Numbered.{may-hold}
 use Rattle.link_courses.proofs.Replying.{replies-noted}
 use Rattle.link_courses.proofs.Writing.{run-writes, script-silent, tool-silent}
 
@@ -110,9 +111,7 @@ start-is :
     → starts plan file ≡ Goes start
     → started_on plan file ≡ start
 start-is plan file start is =
-    goes-on (is_marked_out file.mark.value)
-    (at_first (record (started_on plan file).next { file = file }))
-    (started_on plan file) start is
+    goes-on (is_marked_out file.mark.value) (at_first (unstarted plan file)) (started_on plan file) start is
 
 -- ---- a run keeps the laws
 
@@ -215,7 +214,7 @@ module _ (law : EquipmentKeepsItsLaw) (reports : ReportsAreOfTheirEvents) (spool
         → WasRunOn plans.equipment lines polls (bytes_told disk) link out outcome → KeptOr
     run-kept plans are text read lines script was =
         let sound : spool_break s.now.bytes ≡ None = was.sound s told in
-        let slots = has-slots s.now.bytes sound in
+        let slots = sound_slots s.now.bytes sound in
         inr (record {
           plans = plans;
           plans_are = are;

@@ -12,7 +12,7 @@ use Rattle.message_end.specs.Core.Went.{Goes, Spent}
 use Rattle.message_end.specs.Ends.{Asked, Input, Machine}
 use Rattle.message_end.specs.Ends.Input.{Char, Command, Time}
 use Rattle.message_end.proofs.LogText.{text_of-append}
-use Rattle.trace_log.specs.Log.{Entry, Happening}
+use Rattle.trace_log.specs.Log.{Happening}
 use Rattle.trace_log.specs.Text.{text_of}
 use Rattle.end_run.specs.Acts.{Act, StepAt, lines_of, log_of}
 use Rattle.end_run.specs.Acts.Act.{Connects, Polls, Sends, Stands, Writes}

@@ -37,7 +37,8 @@ counter line = record {
   asks = λ s input now. none_asked;
   start_asks = none_asked;
   losses = λ s input now. [];
-  start_calls = λ s. 0;
+  first_use = λ s. none_asked;
+  anew_use = λ s. none_asked;
 }
 
 -- ---- its acts

@@ -1,202 +1,189 @@
--- The lines of a list, message by message.
-use Rattle.std.proofs.Common.{◌≡◌, ◌≢◌, refl, sym, ◌∙◌, ap, subst, ℕ, ◌+◌, ◌-◌, ◌%◌, ◌≤◌, List, [], ◌∷◌, ◌++◌, take, drop, drop-cons, Option, Some, append_assoc, append-nil, arith}
-use Rattle.std.proofs.Math.Seq.{take-add}
+-- The line of a message, by the slots that it takes.
+use Rattle.std.proofs.Common.{◌≡◌, refl, sym, ◌∙◌, ap, ℕ, zero, suc, ◌+◌, ◌-◌, ◌*◌, ◌%◌, ◌<◌, ◌≤◌, ◌⊎◌, true, List, [], ◌∷◌}
+use Rattle.std.proofs.Common.{◌++◌, length, take, drop, codes, decimal, append_assoc, append-nil, None, arith, inl, inr}
+use Rattle.std.proofs.lemmas.Bool.{cases_lt}
 use Rattle.std.proofs.lemmas.Grind.{flat_map-append}
-use Rattle.std.proofs.lemmas.List.{drop-drop, drop-take}
-use Rattle.std.proofs.lemmas.Option.{get_or_from_slice_get, slice_get_within}
-use Rattle.std.specs.List.{slice_get}
-use Rattle.disk_base.specs.Faults.{Rose}
+use Rattle.std.proofs.lemmas.List.{drop-drop, drop-take, length-take}
+use Rattle.std.proofs.lemmas.Nat.{mod_below}
+use Rattle.std.specs.List.{flat_map}
+use Rattle.hex.specs.Hex.{encode_upper}
+use Rattle.short_text.proofs.Hex.{each_in_hex}
+use Rattle.short_text.specs.Name.{name_of}
+use Rattle.short_text.specs.Shown.{hex_byte}
+use Rattle.trace_log.specs.Text.{body_text}
 use Rattle.disk_base.specs.Story.{Story, bytes_at}
-use Rattle.disk_base.specs.declared.disk.Disk as trait
-use Rattle.disk_base.proofs.Stretches.{same_then}
-use Rattle.gl_base.specs.Sending.{IsUnderWay, WroteShort}
-use Rattle.gl_base.specs.Sink.{SinkHealth}
-use Rattle.gl_base.specs.Told.{SinkTold}
-use Rattle.gl_base.specs.declared.copying.SinkAnswer.TheVariants.{Failed}
-use Rattle.gl_base.proofs.Appending.{passes_behind, told, under_way_more, wrote_nothing}
-use Rattle.spool_show.specs.Showing.{AreLines, HasShown, IsCounted, PutsLine, PutsLines}
-use Rattle.spool_show.specs.declared.spool_end.SpoolEnd.{SpoolEnd}
-use Rattle.spool_show.specs.declared.spool_end.SpoolEnd.TheVariants as end
-use Rattle.spool_show.specs.Text.{line_of, message_line, message_lines}
-use Rattle.spool_file.specs.File.{file_in}
-use Rattle.spool_file.specs.Slot.{message_of, slot_in, slot_place}
+use Rattle.spool_show.specs.Showing.{AreRead, line_of, message_of, piece_of, pieces_of}
+use Rattle.spool_show.specs.Text.{message_line, piece_in, start_text}
+use Rattle.spool_file.specs.File.{slots_in, spool_break}
+use Rattle.spool_file.specs.Sizes.{slots_for}
+use Rattle.spool_file.specs.Slot.{Slot, areas_from, slot_in, slot_place, width}
 use Rattle.spool_file.specs.declared.slot.SlotHead.{SlotHead}
-use Rattle.spool_slots.specs.Changes.{IsFound}
-use Rattle.spool_slots.specs.Spool.{SpoolView, in_hand, known_of}
+use Rattle.spool_file.proofs.Sound.{IsFull, length-areas, width_is}
+use Rattle.spool_file.proofs.Wholes.{full_in, sound_slots}
+use Rattle.spool_slots.specs.Changes.{IsListed}
 
--- the area of a slot's body is what stands behind its first fifteen bytes
-area_behind : (bytes : List ℕ) (p : ℕ) → drop 15 (bytes_at bytes p 4096) ≡ bytes_at bytes (p + 15) 4081
-area_behind bytes p = drop-take 15 4081 (drop p bytes) ∙ ap (take 4081) (drop-drop 15 p bytes)
+-- ---- lists
 
--- the line of a message that was found
-found_line :
-    (s : Story) (slots first number : ℕ) (into : List ℕ) (head : SlotHead) → IsFound s slots first number into head
-    → line_of head (take head.len (drop 15 into)) ≡ message_line (message_of (slot_in s.now.bytes (number % slots)))
-found_line s slots first number into head is =
-    let slot = slot_in s.now.bytes (number % slots) in
-    let area : drop 15 into ≡ slot.area =
-    ap (drop 15) is.bytes ∙ area_behind s.now.bytes (slot_place (number % slots)) in
-    ap (λ h. line_of h (take h.len (drop 15 into))) is.head_is ∙ ap (λ a. line_of slot.head (take slot.head.len a)) area
+-- what is taken of two lists
+take_both : (n : ℕ) (xs ys : List ℕ) → take n (xs ++ ys) ≡ take n xs ++ take (n - length xs) ys
+take_both zero [] ys = refl
+take_both (suc n) [] ys = let same : suc n ≡ suc n - 0 = omega arith in ap (λ (m : ℕ). take m ys) same
+take_both zero (x ∷ xs) ys =
+    let none : 0 ≡ 0 - length (x ∷ xs) = omega arith in ap (λ (m : ℕ). take m ys) none
+take_both (suc n) (x ∷ xs) ys =
+    let less : n - length xs ≡ suc n - length (x ∷ xs) = omega arith in
+    ap (λ (l : List ℕ). x ∷ l) (take_both n xs ys) ∙ ap (λ (m : ℕ). x ∷ (take n xs ++ take m ys)) less
 
--- the message at a place
-one_at : {X : Type 0} (xs : List X) (i : ℕ) (x : X) → slice_get xs i ≡ Some x → take 1 (drop i xs) ≡ x ∷ []
-one_at xs i x is =
-    ap (take 1) (drop-cons xs i x (slice_get_within xs i x is))
-    ∙ ap (λ y. y ∷ []) (get_or_from_slice_get xs i x x is)
+hex_both : (xs ys : List ℕ) → encode_upper (xs ++ ys) ≡ encode_upper xs ++ encode_upper ys
+hex_both xs ys =
+    sym (each_in_hex (xs ++ ys)) ∙ flat_map-append hex_byte xs ys
+    ∙ ap (λ (t : List ℕ). t ++ flat_map hex_byte ys) (each_in_hex xs) ∙ ap (λ (t : List ℕ). encode_upper xs ++ t) (each_in_hex ys)
 
--- it is one line of the list
-pub one_line :
-    (before : Option Story) (slots first number : ℕ) (into : List ℕ) (head : SlotHead)
-    → ((s : Story) → before ≡ Some s → IsFound s slots first number into head)
-    → AreLines before (number - first) 1 (line_of head (take head.len (drop 15 into)))
-one_line before slots first number into head found s is =
-    let here = found s is in
-    let message = message_of (slot_in s.now.bytes (number % slots)) in
-    let list = (file_in s.now.bytes).list in
-    found_line s slots first number into head here ∙ sym (append-nil (message_line message))
-    ∙ ap message_lines (sym (one_at list (number - first) message here.listed))
+pub hex_none : encode_upper [] ≡ []
+hex_none = sym (each_in_hex [])
 
-pub no_line : (before : Option Story) (from : ℕ) → AreLines before from 0 []
-no_line before from s is = refl
+-- a body in two pieces, of which the first one has some of it
+body_both : (xs ys : List ℕ) → (xs ≡ [] → ys ≡ []) → body_text (xs ++ ys) ≡ body_text xs ++ encode_upper ys
+body_both [] ys none =
+    ap body_text (none refl) ∙ sym (append-nil (codes "-")) ∙ ap (λ (t : List ℕ). codes "-" ++ t) (sym hex_none)
+    ∙ ap (λ (b : List ℕ). codes "-" ++ encode_upper b) (sym (none refl))
+body_both (x ∷ xs) ys none = hex_both (x ∷ xs) ys
 
--- lines and more lines behind them
-pub lines_more :
-    (before : Option Story) (i count : ℕ) (text more : List ℕ) → AreLines before 0 i text → AreLines before i count more
-    → AreLines before 0 (i + count) (text ++ more)
-lines_more before i count text more so_far one s is =
-    let list = (file_in s.now.bytes).list in
-    ap (λ t. t ++ more) (so_far s is) ∙ ap (λ t. message_lines (take i list) ++ t) (one s is)
-    ∙ sym (flat_map-append message_line (take i list) (take count (drop i list)))
-    ∙ ap message_lines (sym (take-add i count list))
+-- ---- the pieces of a body
 
--- ---- a line in the page
+module _ (slot : ℕ → Slot) (n : ℕ) where
+  -- one area more
+  areas_on : (number more : ℕ) →
+      areas_from n slot number (suc more) ≡ areas_from n slot number more ++ (slot ((number + more) % n)).area
+  areas_on number zero =
+      let at : number ≡ number + 0 = omega arith in
+      append-nil (slot (number % n)).area ∙ ap (λ (x : ℕ). (slot (x % n)).area) at
+  areas_on number (suc more) =
+      let at : number + 1 + more ≡ number + suc more = omega arith in
+      let first = (slot (number % n)).area in
+      let rest = areas_from n slot (number + 1) more in
+      ap (λ (t : List ℕ). first ++ t) (areas_on (number + 1) more)
+      ∙ sym (append_assoc first rest (slot ((number + 1 + more) % n)).area)
+      ∙ ap (λ (x : ℕ). (first ++ rest) ++ (slot (x % n)).area) at
 
--- nothing was put
-nothing_put :
-    {was : Option (List ℕ)} {a : SinkHealth} (page : List ℕ) → IsUnderWay (told was was a a) (page ++ []) page
-nothing_put page = record { sent = []; wrote = wrote_nothing; whole = append-nil page }
+-- the line of a message by its head, the area of its first slot, and the areas of the further ones
+line_parts : (head : SlotHead) (slot area further : List ℕ) → length area ≡ 4081 → drop 15 slot ≡ area →
+    (start_text head slot ++ encode_upper (take (head.len - 4081) further)) ++ codes "\n"
+    ≡ message_line (record {
+      number = head.number;
+      stream = head.stream;
+      function = head.function;
+      body = take head.len (area ++ further);
+    })
+line_parts head slot area further long is =
+    let front = decimal head.number ++ codes " " ++ name_of head.stream head.function true ++ codes " " in
+    let first = take head.len (drop 15 slot) in
+    let rest = take (head.len - 4081) further in
+    let none : first ≡ [] → rest ≡ [] =
+    λ empty. let zeroed : head.len - 4081 ≡ 0 =
+    omega (arith, ap (length {A = ℕ}) empty, length-take head.len (drop 15 slot), ap (length {A = ℕ}) is, long) in
+    ap (λ (m : ℕ). take m further) zeroed in
+    let body : first ++ rest ≡ take head.len (area ++ further) =
+    ap (λ (xs : List ℕ). take head.len xs ++ rest) is
+    ∙ ap (λ (m : ℕ). take head.len area ++ take (head.len - m) further) (sym long)
+    ∙ sym (take_both head.len area further) in
+    ap (λ (t : List ℕ). t ++ codes "\n") (append_assoc front (body_text first) (encode_upper rest)
+    ∙ ap (λ (t : List ℕ). front ++ t) (sym (body_both first rest none))
+    ∙ ap (λ (b : List ℕ). front ++ body_text b) body)
 
-pub disk_failed :
-    {was : Option (List ℕ)} {a : SinkHealth} (before : Option Story) (from count : ℕ) (page : List ℕ)
-    → PutsLines before from count (told was was a a) page page end.DiskFailed
-disk_failed before from count page = (0, omega arith, [], nothing_put page, no_line before from)
+module _ (s : Story) (sound : spool_break s.now.bytes ≡ None) where
+  abbrev bytes : List ℕ
+  bytes = s.now.bytes
 
--- one line was put
-pub line_put :
-    (before : Option Story) (from : ℕ) (line : List ℕ) (out : SinkTold) (old new : List ℕ) (end : SpoolEnd)
-    → AreLines before from 1 line → PutsLine line out old new end → PutsLines before from 1 out old new end
-line_put before from line out old new end.Done is put = (line, put, is)
-line_put before from line out old new end.WriteFailed is put =
-    (0, omega arith, [], subst (λ (t : List ℕ). WroteShort out t) (sym (append-nil old)) put, no_line before from)
-line_put before from line out old new end.DiskFailed is put = absurd put
-line_put before from line out old new (end.NotSpool place) is put = absurd put
+  abbrev n : ℕ
+  n = slots_in bytes
 
--- ---- all lines
+  some : 0 < n
+  some = let slots = sound_slots bytes sound in omega (arith, slots.some)
 
--- so many messages were shown
-pub record AreShown {D : Type 0} (members : trait.Ghosts D) (v w : SpoolView D) (count : ℕ) (out : SinkTold) (old new : List ℕ) :
-    Type 0 where
-  pub shown : HasShown members v w end.Done
-  pub lines : PutsLines (members.told v.disk) 0 count out old new end.Done
+  full : IsFull (slot_in bytes) n
+  full = full_in bytes n (sound_slots bytes sound).fits
 
--- the count of faults, over two stretches of which the first one went well
-count_on : (a b c : ℕ) (e : SpoolEnd) → b ≡ a → IsCounted b c e → IsCounted a c e
-count_on a b c end.Done same is = is ∙ same
-count_on a b c end.WriteFailed same is = is ∙ same
-count_on a b c (end.NotSpool place) same is = is ∙ same
-count_on a b c end.DiskFailed same is = subst (λ n. Rose n c) same is
+  -- one piece more
+  pub one_piece : (left number more : ℕ) →
+      pieces_of left number more bytes ++ piece_of (left - 4081 * more) (number + more) bytes
+      ≡ pieces_of left number (more + 1) bytes
+  one_piece left number more =
+      let areas = areas_from n (slot_in bytes) number more in
+      let area = (slot_in bytes ((number + more) % n)).area in
+      let long : length areas ≡ 4081 * more = length-areas (slot_in bytes) n full some number more in
+      let next : suc more ≡ more + 1 = omega arith in
+      ap (λ (m : ℕ). encode_upper (take left areas) ++ encode_upper (take (left - m) area)) (sym long)
+      ∙ sym (hex_both (take left areas) (take (left - length areas) area))
+      ∙ ap encode_upper (sym (take_both left areas area))
+      ∙ ap (λ (all : List ℕ). encode_upper (take left all)) (sym (areas_on (slot_in bytes) n number more))
+      ∙ ap (λ (m : ℕ). encode_upper (take left (areas_from n (slot_in bytes) number m))) next
 
-pub shown_on :
-    {D : Type 0} {members : trait.Ghosts D} (v w x : SpoolView D) (e : SpoolEnd) → HasShown members v w end.Done
-    → HasShown members w x e → HasShown members v x e
-shown_on {D} {members} v w x e one two = record {
-  same = two.same
-      ∙ ap (λ (u : SpoolView D). in_hand x.disk (known_of u)) one.same;
-  told = two.told ∙ one.told;
-  same_disk = same_then one.same_disk two.same_disk;
-  count = count_on (members.health v.disk).faults (members.health w.disk).faults (members.health x.disk).faults e
-      one.count two.count;
-}
+  -- some first ones are in front of all
+  pub pieces_front : (left number few all : ℕ) → few ≤ all →
+      (rest : List ℕ) × (pieces_of left number all bytes ≡ pieces_of left number few bytes ++ rest)
+  pieces_front left number few zero within =
+      let none : 0 ≡ few = omega (arith, within) in (
+        [],
+        ap (λ (m : ℕ). pieces_of left number m bytes) none ∙ sym (append-nil (pieces_of left number few bytes)),
+      )
+  pieces_front left number few (suc all) within =
+      by_place (cases_lt all few) (λ less. pieces_front left number few all less) where
+        by_place : (all < few) ⊎ (few ≤ all) → (few ≤ all → (rest : List ℕ)
+            × (pieces_of left number all bytes ≡ pieces_of left number few bytes ++ rest)) →
+            (rest : List ℕ) × (pieces_of left number (suc all) bytes ≡ pieces_of left number few bytes ++ rest)
+        by_place (inl over) before =
+            let same : suc all ≡ few = omega (arith, over, within) in (
+              [],
+              ap (λ (m : ℕ). pieces_of left number m bytes) same ∙ sym (append-nil (pieces_of left number few bytes)),
+            )
+        by_place (inr less) before =
+            let r = before less in
+            let next : suc all ≡ all + 1 = omega arith in (
+              r.0 ++ piece_of (left - 4081 * all) (number + all) bytes,
+              ap (λ (m : ℕ). pieces_of left number m bytes) next ∙ sym (one_piece left number all)
+                  ∙ ap (λ (t : List ℕ). t ++ piece_of (left - 4081 * all) (number + all) bytes) r.1
+                  ∙ append_assoc (pieces_of left number few bytes) r.0
+                  (piece_of (left - 4081 * all) (number + all) bytes),
+            )
 
-pub shown_first :
-    {D : Type 0} {members : trait.Ghosts D} {was : Option (List ℕ)} {a : SinkHealth} (v : SpoolView D) (page : List ℕ)
-    → AreShown members v v 0 (told was was a a) page page
-shown_first {D} {members} v page = record {
-  shown = record { same = refl; told = refl; same_disk = (refl, refl, refl); count = refl };
-  lines = ([], nothing_put page, no_line (members.told v.disk) 0);
-}
+  -- the area of a slot that was read
+  area_read : (number : ℕ) (slot : List ℕ) → slot ≡ bytes_at bytes (slot_place (number % n)) 4096 →
+      drop 15 slot ≡ (slot_in bytes (number % n)).area
+  area_read number slot is =
+      let p = slot_place (number % n) in
+      ap (λ (xs : List ℕ). drop 15 xs) is ∙ drop-take 15 4081 (drop p bytes)
+      ∙ ap (λ (xs : List ℕ). take 4081 xs) (drop-drop 15 p bytes)
 
-module _ {was mid : Option (List ℕ)} {a b : SinkHealth} (before : Option Story) (i count : ℕ) (old page new : List ℕ) where
-  -- lines behind others
-  pub puts_behind :
-      {now : Option (List ℕ)} {c : SinkHealth} (text : List ℕ) → IsUnderWay (told was mid a b) (old ++ text) page → AreLines before 0 i text
-      → PutsLines before i count (told mid now b c) page new end.Done
-      → PutsLines before 0 (i + count) (told was now a c) old new end.Done
-  puts_behind {now} {c} text under are (more, under_more, are_more) = (
-    text ++ more,
-    subst (λ t. IsUnderWay (told was now a c) t new) (append_assoc old text more)
-        (under_way_more (old ++ text) page more new under under_more),
-    lines_more before i count text more are are_more,
-  )
+  -- a further one has its piece
+  pub piece_read : (number left : ℕ) (slot : List ℕ) → slot ≡ bytes_at bytes (slot_place (number % n)) 4096 →
+      encode_upper (piece_in left slot) ≡ piece_of left number bytes
+  piece_read number left slot is =
+      ap (λ (area : List ℕ). encode_upper (take left area)) (area_read number slot is)
 
-  -- and where they stop
-  pub stops_behind :
-      (now : Option (List ℕ)) (c : SinkHealth) (e : SpoolEnd) (most : ℕ) (text : List ℕ) → IsUnderWay (told was mid a b) (old ++ text) page → AreLines before 0 i text
-      → i + count ≤ most → e ≢ end.Done → PutsLines before i count (told mid now b c) page new e
-      → PutsLines before 0 most (told was now a c) old new e
-  stops_behind now c end.Done most text under are within stopped puts = absurd (stopped refl)
-  stops_behind now c (end.NotSpool place) most text under are within stopped puts = absurd puts
-  stops_behind now c end.DiskFailed most text under are within stopped (done, few, more, under_more, are_more) = (
-    i + done,
-    omega (arith, few, within),
-    text ++ more,
-    subst (λ t. IsUnderWay (told was now a c) t new) (append_assoc old text more)
-        (under_way_more (old ++ text) page more new under under_more),
-    lines_more before i done text more are are_more,
-  )
-  stops_behind now c end.WriteFailed most text under are within stopped (done, few, more, cut, are_more) = (
-    i + done,
-    omega (arith, few, within),
-    text ++ more,
-    subst (λ t. WroteShort (told was now a c) t) (append_assoc old text more)
-        (passes_behind now c (old ++ text) page more new Failed under cut),
-    lines_more before i done text more are are_more,
-  )
+  -- and the first one the start of the line, which goes on with the pieces
+  pub line_whole : (head : SlotHead) (slot : List ℕ) → AreRead head slot s →
+      (start_text head slot ++ pieces_of (head.len - 4081) (head.number + 1) (slots_for head.len - 1) bytes)
+      ++ codes "\n" ≡ line_of head.number bytes
+  line_whole head slot read =
+      let k = head.number % n in
+      let area = (slot_in bytes k).area in
+      line_parts head slot area (areas_from n (slot_in bytes) (head.number + 1) (slots_for head.len - 1))
+      (full k (mod_below head.number n some)) (area_read head.number slot read.1)
+      ∙ ap (λ (h : SlotHead). message_line (record {
+        number = h.number;
+        stream = h.stream;
+        function = h.function;
+        body = take h.len (area ++ areas_from n (slot_in bytes) (h.number + 1) (slots_for h.len - 1));
+      })) read.0.head_is
 
--- the place of a number in the list
-at_place :
-    {D : Type 0} {members : trait.Ghosts D} (v w : SpoolView D) (i n : ℕ) → HasShown members v w end.Done → n ≡ v.first + i
-    → n - w.first ≡ i
-at_place v w i n shown is =
-    let same : w.first ≡ v.first = ap (λ u. u.first) shown.same in
-    omega (arith, same, is)
+  -- how many slots it takes
+  pub size_read : (head : SlotHead) → IsListed s head → slots_for head.len ≡ width (message_of head.number bytes)
+  size_read head listed =
+      let k = head.number % n in
+      ap (λ (h : SlotHead). slots_for h.len) listed.head_is
+      ∙ sym (width_is (slot_in bytes) n full some k (mod_below head.number n some))
 
-module _ {D : Type 0} {members : trait.Ghosts D} {was mid : Option (List ℕ)} {a b : SinkHealth} (now : Option (List ℕ))
-    (c : SinkHealth) (v w x : SpoolView D) (i n : ℕ) (old page new : List ℕ) where
-  -- what was put of it is a line of the list at its place
-  at_own_place : (e : SpoolEnd) → AreShown members v w i (told was mid a b) old page → n ≡ v.first + i
-      → PutsLines (members.told w.disk) (n - w.first) 1 (told mid now b c) page new e
-      → PutsLines (members.told v.disk) i 1 (told mid now b c) page new e
-  at_own_place e so_far is puts =
-      subst (λ t. PutsLines t i 1 (told mid now b c) page new e) so_far.shown.told
-      (subst (λ k. PutsLines (members.told w.disk) k 1 (told mid now b c) page new e) (at_place v w i n so_far.shown is) puts)
-
-  -- one message more
-  pub shown_more :
-      AreShown members v w i (told was mid a b) old page → HasShown members w x end.Done
-      → PutsLines (members.told w.disk) (n - w.first) 1 (told mid now b c) page new end.Done → n ≡ v.first + i
-      → AreShown members v x (i + 1) (told was now a c) old new
-  shown_more so_far more puts is = record {
-    shown = shown_on v w x end.Done so_far.shown more;
-    lines = puts_behind (members.told v.disk) i 1 old page new so_far.lines.0 so_far.lines.1 so_far.lines.2
-        (at_own_place end.Done so_far is puts);
-  }
-
-  -- it stops at this one
-  pub shown_stops :
-      (e : SpoolEnd) (most : ℕ) → AreShown members v w i (told was mid a b) old page → i + 1 ≤ most → e ≢ end.Done
-      → PutsLines (members.told w.disk) (n - w.first) 1 (told mid now b c) page new e → n ≡ v.first + i
-      → PutsLines (members.told v.disk) 0 most (told was now a c) old new e
-  shown_stops e most so_far within stopped puts is =
-      stops_behind (members.told v.disk) i 1 old page new now c e most so_far.lines.0 so_far.lines.1 so_far.lines.2 within
-      stopped (at_own_place e so_far is puts)
+pub no_piece : (left number : ℕ) (bytes : List ℕ) → pieces_of left number 0 bytes ≡ []
+no_piece zero number bytes = hex_none
+no_piece (suc left) number bytes = hex_none

@@ -20,10 +20,11 @@ use Rattle.spool_show.specs.declared.spool_end.SpoolEnd.{SpoolEnd}
 use Rattle.spool_show.specs.declared.spool_end.SpoolEnd.TheVariants as end
 use Rattle.spool_file.specs.Added.{OnlyAdds, WritesOrSyncs}
 use Rattle.spool_file.specs.File.{file_in}
+use Rattle.spool_file.specs.Reads.{most_reads}
 use Rattle.spool_file.specs.Slot.{slot_place}
 use Rattle.spool_file.specs.declared.recovery.Known.{Known}
 use Rattle.spool_file.proofs.Added.{adds_as, adds_behind, adds_done, adds_failed}
-use Rattle.spool_slots.specs.Changes.{HasRecovered, Recovers, most_reads}
+use Rattle.spool_slots.specs.Changes.{HasRecovered, Recovers}
 use Rattle.spool_slots.specs.Spool.{Rests, SpoolView, known_of}
 use Rattle.spool_slots.specs.declared.states.Recovering.{Recovering}
 use Rattle.spool_slots.specs.declared.states.Recovering.TheVariants as recovering
@@ -112,7 +113,7 @@ not_recovered members old (recovering.Failed spent) (inl unsynced, by) = record 
 not_recovered members old (recovering.Failed spent) (inr read, by) = record {
   written = ([], wrote_nothing, λ s told_is. (file_text (file_in s.now.bytes), refl));
   kept = inr read.told;
-  count = failed_count old spent.disk (most_reads (members.size_is old)) read;
+  count = failed_count old spent.disk (most_reads (members.told old) (members.size_is old)) read;
 }
 
 -- the list of a recovered file was shown

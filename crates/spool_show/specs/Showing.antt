@@ -1,20 +1,26 @@
 -- What showing a spool file comes to (this profile).
-use Rattle.std.specs.Prelude.{◌≡◌, ◌⊎◌, ℕ, ◌≤◌, List, [], ◌++◌, take, drop, Option, Some, None}
+use Rattle.std.specs.Prelude.{◌≡◌, ◌≢◌, ◌⊎◌, ℕ, ◌%◌, ◌≤◌, List, [], ◌++◌, take, Option, Some, None, Result, Ok, Err}
+use Rattle.std.specs.List.{slice_get}
 use Rattle.std.specs.Option.{option_map}
+use Rattle.hex.specs.Hex.{encode_upper}
 use Rattle.disk_base.specs.Faults.{Rose}
 use Rattle.disk_base.specs.SameDisk.{IsSameDisk}
-use Rattle.disk_base.specs.Story.{Story, with_sync}
+use Rattle.disk_base.specs.Story.{Story, bytes_at, with_sync}
 use Rattle.disk_base.specs.declared.disk.Disk as trait
 use Rattle.gl_base.specs.Sending.{IsUnderWay, WroteShort, WroteText}
 use Rattle.gl_base.specs.Told.{SinkTold}
-use Rattle.spool_show.specs.Text.{file_text, message_lines}
+use Rattle.spool_show.specs.Text.{file_text, message_line, message_lines}
 use Rattle.spool_show.specs.Told.{DiskTold}
 use Rattle.spool_show.specs.declared.spool_end.SpoolEnd.{SpoolEnd}
 use Rattle.spool_show.specs.declared.spool_end.SpoolEnd.TheVariants.{Done, NotSpool, DiskFailed, WriteFailed}
-use Rattle.spool_file.specs.File.{file_in, spool_break}
+use Rattle.spool_file.specs.File.{file_in, slots_in, spool_break}
 use Rattle.spool_file.specs.Reading.{IsBreak}
+use Rattle.spool_file.specs.Slot.{Message, areas_from, slot_in, slot_message, slot_place, width}
 use Rattle.spool_file.specs.declared.reading.NotSpool.{NotSpool as Place}
-use Rattle.spool_slots.specs.Spool.{SpoolView, in_hand, known_of}
+use Rattle.spool_file.specs.declared.recovery.Known.{Known}
+use Rattle.spool_file.specs.declared.slot.SlotHead.{SlotHead}
+use Rattle.spool_slots.specs.Changes.{IsListed}
+use Rattle.spool_slots.specs.Spool.{Rests, SpoolView, in_hand, known_of}
 use Rattle.spool_slots.specs.declared.states.Recovering.{Recovering}
 use Rattle.spool_slots.specs.declared.states.Recovering.TheVariants as recovering
 
@@ -35,19 +41,22 @@ refused_disk (recovering.Failed spent) = spent.disk
 
 -- ---- the whole text
 
--- a text is what is written of the file, or its front, where the disk tells its bytes
-abbrev pub IsWhole : Option Story → List ℕ → Type 0
-IsWhole told text = (s : Story) → told ≡ Some s → text ≡ file_text (file_in s.now.bytes)
+-- a text is what was to be written of the bytes that a disk tells, or its front
+abbrev pub IsWhole : Option Story → (List ℕ → List ℕ) → List ℕ → Type 0
+IsWhole told wanted text = (s : Story) → told ≡ Some s → text ≡ wanted s.now.bytes
 
-abbrev pub IsFront : Option Story → List ℕ → Type 0
-IsFront told text =
-    (s : Story) → told ≡ Some s → (rest : List ℕ) × (file_text (file_in s.now.bytes) ≡ text ++ rest)
+abbrev pub IsFront : Option Story → (List ℕ → List ℕ) → List ℕ → Type 0
+IsFront told wanted text = (s : Story) → told ≡ Some s → (rest : List ℕ) × (wanted s.now.bytes ≡ text ++ rest)
+
+-- all that is to be written of a file
+abbrev pub file_lines : List ℕ → List ℕ
+file_lines bytes = file_text (file_in bytes)
 
 -- what was written of a list in hand
 abbrev pub ShowsList : Option Story → SinkTold → SpoolEnd → Type 0
-ShowsList told out Done = (text : List ℕ) × WroteText out text × IsWhole told text
-ShowsList told out DiskFailed = (text : List ℕ) × WroteText out text × IsFront told text
-ShowsList told out WriteFailed = (text : List ℕ) × WroteShort out text × IsFront told text
+ShowsList told out Done = (text : List ℕ) × WroteText out text × IsWhole told file_lines text
+ShowsList told out DiskFailed = (text : List ℕ) × WroteText out text × IsFront told file_lines text
+ShowsList told out WriteFailed = (text : List ℕ) × WroteShort out text × IsFront told file_lines text
 ShowsList told out (NotSpool place) = ⊥
 
 -- bytes that are told stand for a file
@@ -94,23 +103,64 @@ pub record HasShown {D : Type 0} (members : trait.Ghosts D) (v w : SpoolView D) 
   pub same_disk : IsSameDisk members v.disk w.disk
   pub count : IsCounted (members.health v.disk).faults (members.health w.disk).faults end
 
--- a text is the lines of so many messages, from a place of the list on
-abbrev pub AreLines : Option Story → ℕ → ℕ → List ℕ → Type 0
-AreLines told from count text =
-    (s : Story) → told ≡ Some s → text ≡ message_lines (take count (drop from (file_in s.now.bytes).list))
+-- what is to be put of the bytes that are told was put behind what a page held; where that stopped, its front
+abbrev pub Puts : Option Story → (List ℕ → List ℕ) → SinkTold → List ℕ → List ℕ → SpoolEnd → Type 0
+Puts told wanted out old new Done =
+    (text : List ℕ) × IsUnderWay out (old ++ text) new × IsWhole told wanted text
+Puts told wanted out old new DiskFailed =
+    (text : List ℕ) × IsUnderWay out (old ++ text) new × IsFront told wanted text
+Puts told wanted out old new WriteFailed =
+    (text : List ℕ) × WroteShort out (old ++ text) × IsFront told wanted text
+Puts told wanted out old new (NotSpool place) = ⊥
 
--- these lines were put behind what a page held
-abbrev pub PutsLines : Option Story → ℕ → ℕ → SinkTold → List ℕ → List ℕ → SpoolEnd → Type 0
-PutsLines told from count out old new Done =
-    (text : List ℕ) × IsUnderWay out (old ++ text) new × AreLines told from count text
-PutsLines told from count out old new DiskFailed =
-    (done : ℕ) × (done ≤ count) × (text : List ℕ) × IsUnderWay out (old ++ text) new × AreLines told from done text
-PutsLines told from count out old new WriteFailed =
-    (done : ℕ) × (done ≤ count) × (text : List ℕ) × WroteShort out (old ++ text) × AreLines told from done text
-PutsLines told from count out old new (NotSpool place) = ⊥
+-- a text was put behind what a page held
+abbrev pub PutsText : List ℕ → SinkTold → List ℕ → List ℕ → SpoolEnd → Type 0
+PutsText text out old new Done = IsUnderWay out (old ++ text) new
+PutsText text out old new WriteFailed = WroteShort out old
+PutsText text out old new _ = ⊥
 
--- a line was put behind what a page held
-abbrev pub PutsLine : List ℕ → SinkTold → List ℕ → List ℕ → SpoolEnd → Type 0
-PutsLine line out old new Done = IsUnderWay out (old ++ line) new
-PutsLine line out old new WriteFailed = WroteShort out old
-PutsLine line out old new _ = ⊥
+-- the lines of all messages
+abbrev pub list_lines : List ℕ → List ℕ
+list_lines bytes = message_lines (file_in bytes).list
+
+-- the message whose head is in the slot of a number, and its line
+abbrev pub message_of : (number : ℕ) → List ℕ → Message
+message_of number bytes = slot_message (slots_in bytes) (slot_in bytes) (number % slots_in bytes)
+
+abbrev pub line_of : (number : ℕ) → List ℕ → List ℕ
+line_of number bytes = message_line (message_of number bytes)
+
+-- of a body that has so many bytes behind its first slot, those in the first ones of the further slots, from that of a
+-- number on; and those in one of them
+abbrev pub pieces_of : (left number more : ℕ) → List ℕ → List ℕ
+pieces_of left number more bytes = encode_upper (take left (areas_from (slots_in bytes) (slot_in bytes) number more))
+
+abbrev pub piece_of : (left number : ℕ) → List ℕ → List ℕ
+piece_of left number bytes = encode_upper (take left (slot_in bytes (number % slots_in bytes)).area)
+
+-- what is known of a spool in hand, where its disk tells its bytes
+abbrev pub AreInHand : Option Story → Known → Type 0
+AreInHand told known = (s : Story) → told ≡ Some s → Rests s known
+
+-- a message of the list has this number
+abbrev pub IsOfList : (number : ℕ) → List ℕ → Type 0
+IsOfList number bytes =
+    (m : Message) × (place : ℕ) × (slice_get (file_in bytes).list place ≡ Some m) × (m.number ≡ number)
+
+-- the head and the first slot of a message of the list were read
+abbrev pub AreRead : SlotHead → List ℕ → Story → Type 0
+AreRead head slot s =
+    IsListed s head × (slot ≡ bytes_at s.now.bytes (slot_place (head.number % slots_in s.now.bytes)) 4096)
+
+-- how putting a message's line ended, which says how many numbers it takes
+abbrev pub end_by : Result ℕ SpoolEnd → SpoolEnd
+end_by (Ok size) = Done
+end_by (Err end) = end
+
+abbrev pub HasStopped : SpoolEnd → Type 0
+HasStopped end = end ≢ Done
+
+-- as many as it has slots, and at least one
+abbrev pub IsSize : Option Story → (number size : ℕ) → Type 0
+IsSize told number size =
+    (1 ≤ size) × ((s : Story) → told ≡ Some s → size ≡ width (message_of number s.now.bytes))

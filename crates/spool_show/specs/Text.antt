@@ -1,5 +1,5 @@
 -- What is written about a spool file (this profile).
-use Rattle.std.specs.Prelude.{ℕ, true, List, ◌++◌, length, codes, decimal}
+use Rattle.std.specs.Prelude.{ℕ, true, List, ◌++◌, length, take, drop, codes, decimal}
 use Rattle.std.specs.List.{flat_map}
 use Rattle.short_text.specs.Name.{name_of}
 use Rattle.spool_file.specs.File.{SpoolFile}
@@ -23,14 +23,15 @@ message_line message =
     decimal message.number ++ codes " " ++ name_of message.stream message.function true ++ codes " "
     ++ body_text message.body ++ codes "\n"
 
--- the line of a message of which a slot's head and the body are given
-abbrev pub line_of : SlotHead → List ℕ → List ℕ
-line_of head body = message_line (record {
-  number = head.number;
-  stream = head.stream;
-  function = head.function;
-  body = body;
-})
+-- of the bytes of a slot, those of a body of which so many bytes are left
+abbrev pub piece_in : (left : ℕ) → List ℕ → List ℕ
+piece_in left slot = take left (drop 15 slot)
+
+-- the line of a message up to where its body goes on in further slots, by its head and the bytes of its first slot
+abbrev pub start_text : SlotHead → List ℕ → List ℕ
+start_text head slot =
+    decimal head.number ++ codes " " ++ name_of head.stream head.function true ++ codes " "
+    ++ body_text (piece_in head.len slot)
 
 abbrev pub message_lines : List Message → List ℕ
 message_lines = flat_map message_line

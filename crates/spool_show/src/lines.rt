@@ -1,15 +1,16 @@
-//! The lines about a spool file: its head, a message, and a new file.
+//! The lines about a spool file: its head, a message in pieces, and a new file.
 
-ghost use Rattle.std.specs.Prelude.{◌≡◌, ◌+◌, ◌*◌, ◌++◌, ◌≤◌, drop, length, take};
+ghost use Rattle.std.specs.Prelude.{◌≡◌, ◌+◌, ◌*◌, ◌++◌, ◌≤◌, length};
 ghost use Rattle.arrayvec.specs.ArrayVec.{array_vec_len};
-ghost use Rattle.spool_show.specs.Text.{count_text, formatted_line, head_line, line_of};
+ghost use Rattle.hex.specs.Hex.{encode_upper};
+ghost use Rattle.spool_show.specs.Text.{count_text, formatted_line, head_line, piece_in as piece_of, start_text};
 ghost use Rattle.trace_log.specs.Text.{body_text};
 
 use arrayvec::ArrayVec;
 use short_text::{put, put_hex, put_name, put_number};
 use spool_file::{SLOT_SIZE, SlotHead, slot_place};
 
-/// How long a line is at most.
+/// How much of a line is put at once, at most.
 pub const LINE: usize = 8300;
 
 /// The line of a new file.
@@ -51,31 +52,38 @@ fn put_count<const N: usize>(line: &mut ArrayVec<u8, N>, word: &[u8], number: u6
     put_number(line, number);
 }
 
-/// Puts the line of a message of which a slot's bytes hold the body.
-pub fn put_message_line<const N: usize>(
+/// Puts the line of a message up to where its body goes on in further slots, by the bytes of its first slot.
+pub fn put_start<const N: usize>(
     line: &mut ArrayVec<u8, N>,
     head: &SlotHead,
     slot: &[u8; SLOT_SIZE],
 )
     requires { array_vec_len line.old + 8300 ≤ N }
-    ensures { line.new.items ≡ line.old.items ++ line_of head.now (take head.now.len (drop 15 slot.now)) }
+    ensures { line.new.items ≡ line.old.items ++ start_text head.now slot.now }
 {
     put_number(line, head.number);
     put(line, b" ");
     put_name(line, head.stream, head.function, true);
     put(line, b" ");
-    put_body(line, body_in(head.len, slot));
-    put(line, b"\n");
+    put_body(line, piece_in(head.len, slot));
 }
 
-// The body in a slot's bytes.
-fn body_in(len: u32, slot: &[u8; SLOT_SIZE]) -> &[u8]
-    ensures body { result.now ≡ take len (drop 15 slot.now) }
+/// Puts a further piece of a body, of which so many bytes are left, by the bytes of its slot.
+pub fn put_piece<const N: usize>(line: &mut ArrayVec<u8, N>, left: u32, slot: &[u8; SLOT_SIZE])
+    requires { array_vec_len line.old + 8300 ≤ N }
+    ensures { line.new.items ≡ line.old.items ++ encode_upper (piece_of left slot.now) }
+{
+    put_hex(line, piece_in(left, slot));
+}
+
+// Of a slot's bytes, those of a body of which so many bytes are left.
+fn piece_in(left: u32, slot: &[u8; SLOT_SIZE]) -> &[u8]
+    ensures piece { result.now ≡ piece_of left slot.now }
     ensures short { length result.now ≤ 4081 }
 {
     let (_, area) = slot.split_at(BODY);
-    if (len as usize) < area.len() {
-        &area[..len as usize]
+    if (left as usize) < area.len() {
+        &area[..left as usize]
     } else {
         area
     }
