@@ -57,7 +57,9 @@ static ROWS: [Row; 5] = [
         Work::Drop,
         (2, 0, 0),
         (1, 1, 0),
-        [b"ddd", b"bbd", b"ddd", b"bbd", b"ddd", b"bbd", b"ddd"],
+        [
+            b"bddd", b"bbbd", b"bddd", b"bbbd", b"bddd", b"bbbd", b"bddd",
+        ],
     ),
     (
         Work::Reserve,
@@ -91,8 +93,8 @@ static ROWS: [Row; 5] = [
     ),
 ];
 
-// The calls of a recovery: a sync, a read of the front, and one of each slot.
-const RECOVERY: u32 = 5;
+// The calls of a recovery: a sync, a read of the front, and three of each slot.
+const RECOVERY: u32 = 11;
 
 fn file_before(alloc: Global, work: Work) -> Option<Spool<MemDisk>> {
     if work == Work::PutBehindClear {

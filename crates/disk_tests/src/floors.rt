@@ -310,16 +310,16 @@ fn carried(spool: Spool<MemDisk>, work: Work) -> Option<Spool<MemDisk>> {
 // A work, how many calls it makes, and how many messages stand then, from which number on.
 type Counted = (Work, u32, u32, u64);
 
-// In one slot: a drop closes the gate that the next put looks at, and a clear leaves it open.
+// In one slot: a drop reads the length and closes the gate that the next put looks at, and a clear leaves it open.
 static COUNTED: [Counted; 10] = [
     (Work::Put, 5, 1, 0),
-    (Work::Drop, 2, 0, 1),
+    (Work::Drop, 3, 0, 1),
     (Work::Put, 5, 1, 1),
     (Work::Clear, 5, 0, 2),
     (Work::Clear, 0, 0, 2),
     (Work::Put, 7, 1, 2),
     (Work::Reserve, 5, 1, 2),
-    (Work::Drop, 2, 0, 3),
+    (Work::Drop, 3, 0, 3),
     (Work::Put, 5, 1, 3),
     (Work::Clear, 5, 0, 4),
 ];
@@ -360,7 +360,7 @@ fn all_counted(alloc: Global) -> bool {
     true
 }
 
-// Whether a recovery is a sync, a read of the front, and one of each slot.
+// Whether a recovery makes so many calls: a sync, a read of the front, and three of each slot.
 fn recovers_by(alloc: Global, calls: u32) -> bool {
     let Some(spool) = cleared(alloc) else {
         return false;
@@ -377,6 +377,6 @@ fn recovers_by(alloc: Global, calls: u32) -> bool {
 fn works_make_so_many_calls(rt: HostRuntime) -> Result<(), Fail> {
     let alloc = rt.alloc();
     assert!(rt; all_counted(alloc));
-    assert!(rt; recovers_by(alloc, 5));
+    assert!(rt; recovers_by(alloc, 11));
     Ok(())
 }

@@ -10,6 +10,10 @@ mod full_recipes;
 #[cfg(test)]
 mod list_works;
 #[cfg(test)]
+mod long_cuts;
+#[cfg(test)]
+mod long_messages;
+#[cfg(test)]
 mod memory_disk;
 #[cfg(test)]
 mod recipe_files;

@@ -1,7 +1,15 @@
 //! `gem_spool`: works carried out in a row, what a stop among them leaves, and the oldest message as it is read.
 
+ghost use Rattle.std.specs.Prelude.{◌≡◌, ◌<◌, ◌≤◌, ◌++◌, List, Some, IsTrue};
+ghost use Rattle.disk_base.specs.Story.{Story};
+ghost use Rattle.gem_spool.specs.Standing.{count_of};
+ghost use Rattle.gem_spool.specs.Works.{oldest_width};
+ghost use Rattle.spool_file.specs.File.{file_in};
+ghost use Rattle.spool_file.specs.Slot.{Message};
+ghost use Rattle.spool_slots.specs.Changes.{IsFirstSize};
+
 use crate::spool_list::{formatted, leaves, with_one, with_two};
-use disk_base::{CutChoice, MemDisk};
+use disk_base::{CutChoice, Disk, MemDisk};
 use gem_spool::{GemSpool, Room, Undone, Unread, Work};
 use gl_base::Row;
 use std::alloc::Global;
@@ -12,56 +20,71 @@ use std::test::Fail;
 type Stop = (u32, usize, (u32, u64), (u32, u64));
 
 // Of two messages, 1 and 2, in three slots: a put and a drop,
-static STOPS: [Stop; 7] = [
+static STOPS: [Stop; 8] = [
     (1, 0, (2, 1), (2, 1)),
     (2, 0, (2, 1), (2, 1)),
     (3, 0, (2, 1), (2, 1)),
     (4, 0, (2, 1), (3, 1)),
     (5, 0, (2, 1), (3, 1)),
-    (6, 1, (3, 1), (2, 2)),
+    (6, 1, (3, 1), (3, 1)),
     (7, 1, (3, 1), (2, 2)),
+    (8, 1, (3, 1), (2, 2)),
 ];
 
 // and then a purge of two, and a put into the slot that the drop has closed.
 static LATER: [Stop; 10] = [
-    (8, 2, (2, 2), (2, 2)),
     (9, 2, (2, 2), (2, 2)),
     (10, 2, (2, 2), (2, 2)),
-    (11, 2, (2, 2), (0, 4)),
+    (11, 2, (2, 2), (2, 2)),
     (12, 2, (2, 2), (0, 4)),
-    (13, 3, (0, 4), (0, 4)),
+    (13, 2, (2, 2), (0, 4)),
     (14, 3, (0, 4), (0, 4)),
     (15, 3, (0, 4), (0, 4)),
-    (16, 3, (0, 4), (1, 4)),
+    (16, 3, (0, 4), (0, 4)),
     (17, 3, (0, 4), (1, 4)),
+    (18, 3, (0, 4), (1, 4)),
 ];
 
 // In one slot that holds a message: a drop and a put, and then a purge and a put. The first put looks at a gate that
 // the drop has closed, and the second at one that the purge has left open.
-static OVERWRITING: [Stop; 7] = [
-    (1, 0, (1, 0), (0, 0)),
+static OVERWRITING: [Stop; 8] = [
+    (1, 0, (1, 0), (1, 0)),
     (2, 0, (1, 0), (0, 0)),
-    (3, 1, (0, 0), (0, 0)),
+    (3, 0, (1, 0), (0, 0)),
     (4, 1, (0, 0), (0, 0)),
     (5, 1, (0, 0), (0, 0)),
-    (6, 1, (0, 0), (1, 1)),
+    (6, 1, (0, 0), (0, 0)),
     (7, 1, (0, 0), (1, 1)),
+    (8, 1, (0, 0), (1, 1)),
 ];
 
 static PURGED: [Stop; 12] = [
-    (8, 2, (1, 1), (1, 1)),
     (9, 2, (1, 1), (1, 1)),
     (10, 2, (1, 1), (1, 1)),
-    (11, 2, (1, 1), (0, 2)),
+    (11, 2, (1, 1), (1, 1)),
     (12, 2, (1, 1), (0, 2)),
-    (13, 3, (0, 2), (0, 2)),
+    (13, 2, (1, 1), (0, 2)),
     (14, 3, (0, 2), (0, 2)),
     (15, 3, (0, 2), (0, 2)),
     (16, 3, (0, 2), (0, 2)),
     (17, 3, (0, 2), (0, 2)),
-    (18, 3, (0, 2), (1, 2)),
+    (18, 3, (0, 2), (0, 2)),
     (19, 3, (0, 2), (1, 2)),
+    (20, 3, (0, 2), (1, 2)),
 ];
+
+// Whether there are so many messages, and each takes one slot.
+fn has_single<D: Disk>(spool: &GemSpool<D>, len: u32) -> bool
+    ensures len { IsTrue result → spool.now.spool.len ≡ len }
+    ensures used { IsTrue result → (count_of spool.now.spool).used ≡ len }
+    ensures room { IsTrue result → (count_of spool.now.spool).used ≤ spool.now.spool.slots }
+    ensures size { IsTrue result → 0 < len → IsFirstSize D.Disk spool.now.spool 1 }
+    ensures oldest { IsTrue result → 0 < len → (s : Story) → D.told spool.now.spool.disk ≡ Some s
+        → (more : List Message) → 1 ≡ oldest_width ((file_in s.now.bytes).list ++ more) }
+{
+    let used = spool.count().used;
+    spool.len() == len && used == len
+}
 
 // Carries them out. None where there aren't two messages and room for one more, or no memory.
 fn carried(
@@ -71,10 +94,7 @@ fn carried(
     let (Ok(body), Ok(last)) = (Row::of(alloc, &[1, 0]), Row::of(alloc, &[33, 0])) else {
         return None;
     };
-    if spool.len() != 2 {
-        return None;
-    }
-    if spool.next() > 100 {
+    if !has_single(&spool, 2) || spool.next() > 100 {
         return None;
     }
     let Room::Fits = spool.room(2) else {
@@ -105,10 +125,7 @@ fn overwritten(
     let (Ok(body), Ok(last)) = (Row::of(alloc, &[1, 0]), Row::of(alloc, &[33, 0])) else {
         return None;
     };
-    if spool.len() != 1 {
-        return None;
-    }
-    if spool.next() > 100 {
+    if !has_single(&spool, 1) || spool.next() > 100 {
         return None;
     }
     let works = [
@@ -182,17 +199,29 @@ fn one_gate_serves_many_works(rt: HostRuntime) -> Result<(), Fail> {
     Ok(())
 }
 
-// Whether the oldest message is of this stream and function, with this body.
-fn reads(alloc: Global, spool: &mut GemSpool<MemDisk>, name: (u8, u8), body: &[u8]) -> bool {
-    match spool.oldest_message(alloc) {
+// Whether the oldest of so many messages, each of one slot, is of this stream and function, with this body.
+fn reads(
+    alloc: Global,
+    spool: &mut GemSpool<MemDisk>,
+    len: u32,
+    name: (u8, u8),
+    body: &[u8],
+) -> bool {
+    if !has_single(spool, len) {
+        return false;
+    }
+    match spool.oldest_message(alloc, 1) {
         Ok(kept) => { (kept.stream, kept.function) == name && kept.body.as_slice() == body }
         Err(_) => false,
     }
 }
 
 // Whether it isn't read, for this reason.
-fn reads_none(alloc: Global, spool: &mut GemSpool<MemDisk>, why: Unread) -> bool {
-    match spool.oldest_message(alloc) {
+fn reads_none(alloc: Global, spool: &mut GemSpool<MemDisk>, len: u32, why: Unread) -> bool {
+    if !has_single(spool, len) {
+        return false;
+    }
+    match spool.oldest_message(alloc, 1) {
         Ok(_) => false,
         Err(said) => said == why,
     }
@@ -202,7 +231,7 @@ fn reads_none(alloc: Global, spool: &mut GemSpool<MemDisk>, why: Unread) -> bool
 fn all_done(alloc: Global) -> bool {
     match ended(alloc, 0, false) {
         Some(Ok(mut spool)) => {
-            reads(alloc, &mut spool, (5, 1), &[33, 0])
+            reads(alloc, &mut spool, 1, (5, 1), &[33, 0])
                 && spool.next() == 5
                 && leaves(alloc, &spool.retire().into_disk(), CutChoice::Old, 1, 4)
         }
@@ -215,16 +244,16 @@ fn reads_the_first(alloc: Global) -> bool {
     let Some(mut spool) = with_two(alloc) else {
         return false;
     };
-    if !reads(alloc, &mut spool, (6, 11), &[0; 4081]) {
+    if !reads(alloc, &mut spool, 2, (6, 11), &[0; 4081]) {
         return false;
     }
     spool.arm(1);
-    reads_none(alloc, &mut spool, Unread::Failed)
+    reads_none(alloc, &mut spool, 2, Unread::Failed)
 }
 
 fn reads_none_of_a_new_one(alloc: Global) -> bool {
     match formatted(alloc) {
-        Some(mut spool) => reads_none(alloc, &mut spool, Unread::Empty),
+        Some(mut spool) => reads_none(alloc, &mut spool, 0, Unread::Empty),
         None => false,
     }
 }

@@ -89,6 +89,25 @@ fn a_call_that_is_not_listed_stops_no_disk(rt: HostRuntime) -> Result<(), Fail> 
     Ok(())
 }
 
+// Whether a disk that has room to spare for a stop refuses a write for which its list has no room, and makes and lists
+// one at which it is to stop.
+fn stops_without_room(alloc: Global) -> bool {
+    let Ok(mut disk) = MemDisk::with_spare(alloc, 8, 1, 1, (1, 2)) else {
+        return false;
+    };
+    let refused = disk.write(0, &[1, 2]) == DiskAnswer::Failed && !disk.stopped();
+    let none = disk.last_answer() == DiskAnswer::Done;
+    disk.stop_at(1);
+    let failed = disk.write(0, &[3, 4]) == DiskAnswer::Failed && disk.stopped();
+    refused && none && failed && disk.last_answer() == DiskAnswer::Failed
+}
+
+#[test]
+fn a_stop_needs_no_room_but_what_there_is_to_spare(rt: HostRuntime) -> Result<(), Fail> {
+    assert!(rt; stops_without_room(rt.alloc()));
+    Ok(())
+}
+
 // Whether an attaching that asks for too much fails, and takes the one place in the list.
 fn lists_what_failed(alloc: Global) -> bool {
     let Ok(mut disk) = MemDisk::new(alloc, 8, 1, 0) else {

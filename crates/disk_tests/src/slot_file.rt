@@ -110,7 +110,8 @@ fn a_drop_is_done_with_its_gate(rt: HostRuntime) -> Result<(), Fail> {
     assert!(rt; drop_leaves(alloc, 1, CutChoice::Old, 1));
     assert!(rt; drop_leaves(alloc, 2, CutChoice::Fill(0x5A), 1));
     assert!(rt; drop_leaves(alloc, 2, CutChoice::Fill(0), 0));
-    assert!(rt; drop_leaves(alloc, 3, CutChoice::Old, 0));
+    assert!(rt; drop_leaves(alloc, 3, CutChoice::Old, 1));
+    assert!(rt; drop_leaves(alloc, 4, CutChoice::Old, 0));
     Ok(())
 }
 
@@ -202,7 +203,7 @@ fn is_empty(alloc: Global) -> bool {
 fn what_has_no_room_is_refused(rt: HostRuntime) -> Result<(), Fail> {
     let alloc = rt.alloc();
     assert!(rt; refuses_behind(alloc, 3, &[1, 0], (true, false, false)));
-    assert!(rt; refuses_behind(alloc, 3, &[0; 4082], (false, true, false)));
+    assert!(rt; refuses_behind(alloc, 3, &[0; 12244], (false, true, false)));
     assert!(rt; refuses_behind(alloc, 2, &[0; 4081], (false, false, false)));
     assert!(rt; goes_round(alloc));
     assert!(rt; is_empty(alloc));

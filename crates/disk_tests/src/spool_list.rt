@@ -5,11 +5,14 @@ use gem_spool::{GemSpool, PutAnswer, Room};
 use spool_slots::{OldestAnswer, Raw, Spool, Stored};
 use std::alloc::Global;
 
-// What is asked of a spool: a put of a short body, of one with 4,081 bytes, and of one with a byte more, and the rest.
+// What is asked of a spool: a put of a short body, and of one that takes one slot of three, two, all, and more than
+// these; and the rest.
 #[derive(Clone, Copy, Debug, PartialEq, Eq)]
 enum Work {
     Put,
     PutLongest,
+    PutPair,
+    PutWhole,
     PutTooLong,
     Confirm(u64),
     Purge,
@@ -50,6 +53,26 @@ static LATER: [Row; 7] = [
     (Work::Confirm(4), Came::Confirmed(false), 4, 0),
     (Work::Purge, Came::Purged, 4, 0),
     (Work::Put, Came::Put(PutAnswer::Stored(4)), 4, 1),
+];
+
+// Of a new file, too: a message of two slots has no room beside two of one slot, and then goes into the last slot and the
+// first one.
+static WRAPPING: [Row; 6] = [
+    (Work::Put, Came::Put(PutAnswer::Stored(0)), 0, 1),
+    (Work::Put, Came::Put(PutAnswer::Stored(1)), 0, 2),
+    (Work::PutPair, Came::Put(PutAnswer::Full), 0, 2),
+    (Work::Confirm(0), Came::Confirmed(true), 1, 1),
+    (Work::PutPair, Came::Put(PutAnswer::Stored(2)), 1, 2),
+    (Work::Put, Came::Put(PutAnswer::Full), 1, 2),
+];
+
+// One of all slots, which takes three numbers.
+static WHOLE: [Row; 5] = [
+    (Work::PutTooLong, Came::Put(PutAnswer::TooLong), 0, 0),
+    (Work::PutWhole, Came::Put(PutAnswer::Stored(0)), 0, 1),
+    (Work::Put, Came::Put(PutAnswer::Full), 0, 1),
+    (Work::Confirm(0), Came::Confirmed(true), 3, 0),
+    (Work::Put, Came::Put(PutAnswer::Stored(3)), 3, 1),
 ];
 
 // A new spool of three slots.
@@ -102,7 +125,9 @@ fn carry(spool: GemSpool<MemDisk>, work: Work) -> Option<(GemSpool<MemDisk>, Cam
     match work {
         Work::Put => put(spool, &[1, 0]),
         Work::PutLongest => put(spool, &[0; 4081]),
-        Work::PutTooLong => put(spool, &[0; 4082]),
+        Work::PutPair => put(spool, &[0; 5000]),
+        Work::PutWhole => put(spool, &[0; 12243]),
+        Work::PutTooLong => put(spool, &[0; 12244]),
         Work::Confirm(number) => confirm(spool, number),
         Work::Purge => purge(spool),
         Work::Reserve => reserve(spool),
@@ -152,6 +177,14 @@ fn goes_on(alloc: Global) -> bool {
     }
 }
 
+// Whether a new spool goes through these rows.
+fn goes_so(alloc: Global, rows: &[Row]) -> bool {
+    match formatted(alloc) {
+        Some(spool) => behind(spool, rows).is_some(),
+        None => false,
+    }
+}
+
 // Whether the oldest of two is number 1 with its body, and the spool becomes active by word alone.
 fn shows_the_oldest(alloc: Global) -> bool {
     let Some(mut spool) = with_two(alloc) else {
@@ -175,6 +208,8 @@ fn shows_the_oldest(alloc: Global) -> bool {
 fn each_work_changes_the_list(rt: HostRuntime) {
     let alloc = rt.alloc();
     assert!(rt; goes_on(alloc));
+    assert!(rt; goes_so(alloc, &WRAPPING));
+    assert!(rt; goes_so(alloc, &WHOLE));
     assert!(rt; shows_the_oldest(alloc));
 }
 
@@ -248,15 +283,16 @@ fn ends_so(alloc: Global) -> bool {
     }
 }
 
-// Whether there is this room for bodies of 4,081 bytes and of one more.
+// Whether there is this room for bodies of 4,081 bytes, and none ever for more than three slots hold.
 fn has_room(spool: Option<GemSpool<MemDisk>>, room: Room) -> bool {
     match spool {
-        Some(spool) => spool.room(4081) == room && spool.room(4082) == Room::TooLong,
+        Some(spool) => spool.room(4081) == room && spool.room(12244) == Room::TooLong,
         None => false,
     }
 }
 
-fn filled(alloc: Global) -> Option<GemSpool<MemDisk>> {
+// One with numbers 1, 2 and 3.
+pub(crate) fn filled(alloc: Global) -> Option<GemSpool<MemDisk>> {
     match with_two(alloc) {
         Some(spool) => match carry(spool, Work::Put) {
             Some((spool, _)) => Some(spool),

@@ -27,6 +27,8 @@ enum Act {
     Purge,
     // S6F23 with RSDC 0, over two messages.
     Unload,
+    // The same over one message that takes two slots.
+    UnloadLong,
     // The same, and then the reply to the first message.
     Confirm,
     // Time, where few system bytes are left.
@@ -76,12 +78,13 @@ static STORES: [Loss; 5] = [
     },
 ];
 
-static OVERWRITES: [Loss; 7] = [
+// (the first call of a drop is the read of the message's length)
+static OVERWRITES: [Loss; 8] = [
     Loss {
         call: 1,
         notes: b"alarm 7 set\nleaving 0 overwritten\n",
         old: (0, 2, 4096),
-        new: (1, 1, 4096),
+        new: (0, 2, 4096),
     },
     Loss {
         call: 2,
@@ -91,8 +94,8 @@ static OVERWRITES: [Loss; 7] = [
     },
     Loss {
         call: 3,
-        notes: b"alarm 7 set\nleaving 0 overwritten\ngone 0\nstoring 2 S5F1 W\n",
-        old: (1, 1, 4096),
+        notes: b"alarm 7 set\nleaving 0 overwritten\n",
+        old: (0, 2, 4096),
         new: (1, 1, 4096),
     },
     Loss {
@@ -111,10 +114,16 @@ static OVERWRITES: [Loss; 7] = [
         call: 6,
         notes: b"alarm 7 set\nleaving 0 overwritten\ngone 0\nstoring 2 S5F1 W\n",
         old: (1, 1, 4096),
-        new: (1, 2, 4096),
+        new: (1, 1, 4096),
     },
     Loss {
         call: 7,
+        notes: b"alarm 7 set\nleaving 0 overwritten\ngone 0\nstoring 2 S5F1 W\n",
+        old: (1, 1, 4096),
+        new: (1, 2, 4096),
+    },
+    Loss {
+        call: 8,
         notes: b"alarm 7 set\nleaving 0 overwritten\ngone 0\nstoring 2 S5F1 W\n",
         old: (1, 1, 4096),
         new: (1, 2, 4096),
@@ -162,13 +171,29 @@ static UNLOADS: [Loss; 1] = [Loss {
     new: (0, 2, 4096),
 }];
 
-// (the first call is the read of the first message)
-static CONFIRMS: [Loss; 3] = [
+// (a read of each slot)
+static LONG_UNLOADS: [Loss; 2] = [
+    Loss {
+        call: 1,
+        notes: b"rx S6F23 W 00000009 A50100\nsent S6F24 00000009 210100\n",
+        old: (0, 1, 4096),
+        new: (0, 1, 4096),
+    },
+    Loss {
+        call: 2,
+        notes: b"rx S6F23 W 00000009 A50100\nsent S6F24 00000009 210100\n",
+        old: (0, 1, 4096),
+        new: (0, 1, 4096),
+    },
+];
+
+// (the first call is the read of the first message, and the next one that of its length)
+static CONFIRMS: [Loss; 4] = [
     Loss {
         call: 2,
         notes: b"rx S5F2 00000001 210100\nleaving 0 confirmed\n",
         old: (0, 2, 4096),
-        new: (1, 1, 4096),
+        new: (0, 2, 4096),
     },
     Loss {
         call: 3,
@@ -178,6 +203,12 @@ static CONFIRMS: [Loss; 3] = [
     },
     Loss {
         call: 4,
+        notes: b"rx S5F2 00000001 210100\nleaving 0 confirmed\n",
+        old: (0, 2, 4096),
+        new: (1, 1, 4096),
+    },
+    Loss {
+        call: 5,
         notes: b"rx S5F2 00000001 210100\nleaving 0 confirmed\ngone 0\n",
         old: (1, 1, 4096),
         new: (1, 1, 4096),
@@ -226,12 +257,12 @@ enum Course {
     Stuck,
 }
 
-// One message more.
-fn stored_behind(spool: GemSpool<MemDisk>) -> Option<GemSpool<MemDisk>> {
+// One message more, with this body.
+fn stored_behind(spool: GemSpool<MemDisk>, body: &[u8]) -> Option<GemSpool<MemDisk>> {
     let message = Stored {
         stream: 5,
         function: 1,
-        body: &[],
+        body,
     };
     match spool.put(&message) {
         Ok((after, _)) => Some(after),
@@ -242,12 +273,20 @@ fn stored_behind(spool: GemSpool<MemDisk>) -> Option<GemSpool<MemDisk>> {
 // A spool of two slots with one message or two.
 fn stored(alloc: Global, count: u32) -> Option<GemSpool<MemDisk>> {
     let first = match formatted(alloc, 2) {
-        Some(spool) => stored_behind(spool),
+        Some(spool) => stored_behind(spool, &[]),
         None => None,
     };
     match first {
-        Some(spool) if count > 1 => stored_behind(spool),
+        Some(spool) if count > 1 => stored_behind(spool, &[]),
         other => other,
+    }
+}
+
+// The same with one message for which both slots are needed.
+fn stored_long(alloc: Global) -> Option<GemSpool<MemDisk>> {
+    match formatted(alloc, 2) {
+        Some(spool) => stored_behind(spool, &[0; 4_082]),
+        None => None,
     }
 }
 
@@ -347,18 +386,18 @@ fn started_over(alloc: Global, spool: GemSpool<MemDisk>) -> Course {
     }
 }
 
-// It starts over so many messages.
-fn started(alloc: Global, count: u32) -> Course {
-    match stored(alloc, count) {
+// It starts over what was stored.
+fn started(alloc: Global, spool: Option<GemSpool<MemDisk>>) -> Course {
+    match spool {
         Some(spool) => goes_on(alloc, started_over(alloc, spool), NodeInput::Time),
         None => Course::Stuck,
     }
 }
 
-// Over so many messages the communication is established, and the tool on-line.
-fn online(alloc: Global, count: u32) -> Course {
+// Over this the communication is established, and the tool on-line.
+fn online(alloc: Global, spool: Option<GemSpool<MemDisk>>) -> Course {
     let accepted = &[0x01, 0x02, 0x21, 0x01, 0x00, 0x01, 0x00];
-    let course = hears(alloc, started(alloc, count), 1, (1, 14, false), 0, accepted);
+    let course = hears(alloc, started(alloc, spool), 1, (1, 14, false), 0, accepted);
     let course = hears(alloc, course, 0, (1, 17, true), 7, &[]);
     takes(alloc, course, &[0x04, 0x06])
 }
@@ -379,7 +418,7 @@ fn enabled_again(alloc: Global, course: Course) -> Course {
 
 // It has few system bytes left: 127 of 4,096, the first of which its start has drawn.
 fn worn(alloc: Global) -> Course {
-    let mut course = started(alloc, 1);
+    let mut course = started(alloc, stored(alloc, 1));
     for _ in 0..3_968 {
         course = enabled_again(alloc, course);
     }
@@ -409,12 +448,13 @@ fn asked(alloc: Global, course: Course, code: u8) -> Course {
 
 fn acts(alloc: Global, act: Act, call: u32) -> Course {
     match act {
-        Act::Store => alarmed(alloc, armed(online(alloc, 1), call)),
-        Act::Overwrite => alarmed(alloc, armed(online(alloc, 2), call)),
-        Act::Purge => asked(alloc, armed(online(alloc, 2), call), 1),
-        Act::Unload => asked(alloc, armed(online(alloc, 2), call), 0),
+        Act::Store => alarmed(alloc, armed(online(alloc, stored(alloc, 1)), call)),
+        Act::Overwrite => alarmed(alloc, armed(online(alloc, stored(alloc, 2)), call)),
+        Act::Purge => asked(alloc, armed(online(alloc, stored(alloc, 2)), call), 1),
+        Act::Unload => asked(alloc, armed(online(alloc, stored(alloc, 2)), call), 0),
+        Act::UnloadLong => asked(alloc, armed(online(alloc, stored_long(alloc)), call), 0),
         Act::Confirm => {
-            let course = asked(alloc, armed(online(alloc, 2), call), 0);
+            let course = asked(alloc, armed(online(alloc, stored(alloc, 2)), call), 0);
             hears(alloc, course, 2, (5, 2, false), 1, &[0x21, 0x01, 0x00])
         }
         Act::Reserve => goes_on(alloc, armed(worn(alloc), call), NodeInput::Time),
@@ -489,6 +529,12 @@ fn all_messages_leave(rt: HostRuntime) -> Result<(), Fail> {
 #[test]
 fn a_message_is_read(rt: HostRuntime) -> Result<(), Fail> {
     assert!(rt; lose_all(rt.alloc(), Act::Unload, &UNLOADS));
+    Ok(())
+}
+
+#[test]
+fn a_message_is_read_slot_by_slot(rt: HostRuntime) -> Result<(), Fail> {
+    assert!(rt; lose_all(rt.alloc(), Act::UnloadLong, &LONG_UNLOADS));
     Ok(())
 }
 

@@ -107,7 +107,7 @@ static RUNS: [Run; 9] = [
         STORES,
         [FRONT, b""],
         STORED,
-        [2, 1, 5, 16, 5],
+        [2, 1, 5, 20, 5],
     ),
     (
         &["host", "plan", "address"],

@@ -129,6 +129,8 @@ impl Disk for NoDisk {
 
     ghost health = { λ _. record {
       faults = 18446744073709551615;
+      made = 0;
+      bounds = (0, 0);
       calls = 0;
       room = 0;
       fail_in = 0;

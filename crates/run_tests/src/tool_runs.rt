@@ -283,8 +283,8 @@ const ONE_LISTED: &str = "spool slots=3 mark=4096 len=1\n0 S10F1 W 0102210100410
 /// A text of the terminal is stored, or the first or the last of the calls by which it is stored fails.
 static STORINGS: [Storing; 3] = [
     (0, (0, STORED, ""), ONE_LISTED),
-    (12, (74, STORING, "gemline: 74 disk\n"), NONE_LISTED),
-    (16, (74, STORING, "gemline: 74 disk\n"), ONE_LISTED),
+    (16, (74, STORING, "gemline: 74 disk\n"), NONE_LISTED),
+    (20, (74, STORING, "gemline: 74 disk\n"), ONE_LISTED),
 ];
 
 fn stores_so(alloc: Global, case: &Storing) -> bool {

@@ -4,6 +4,7 @@
 use disk_base::{Disk, DiskAnswer};
 use file_disk::FileDisk;
 use spool_slots::{Raw, Spool, Stored};
+use std::alloc::Global;
 use std::process::ExitCode;
 use std::{env, io};
 
@@ -16,9 +17,13 @@ fn main(rt: HostRuntime) -> io::Result<ExitCode> {
         .next()
         .and_then(|word| word.as_str().parse::<u32>().ok())
         .unwrap_or(1);
+    let length = words
+        .next()
+        .and_then(|word| word.as_str().parse::<u32>().ok())
+        .unwrap_or(16);
     let mut disk = FileDisk::new(&rt);
     let messages = match work.as_str() {
-        "put" => put_again(&mut disk, file.as_str(), turns),
+        "put" => put_again(rt.alloc(), &mut disk, file.as_str(), turns, length),
         "purge" => purge(&mut disk, file.as_str()),
         _ => recover_again(&mut disk, file.as_str(), turns),
     };
@@ -31,21 +36,28 @@ fn main(rt: HostRuntime) -> io::Result<ExitCode> {
     }
 }
 
-// Puts so many messages into the spool file of this name, and says how many it then has.
-fn put_again<D: Disk>(disk: &mut D, file: &str, turns: u32) -> Option<u32> {
+// Puts so many messages with bodies of this length into the spool file of this name, and says how many it then has.
+fn put_again<D: Disk>(
+    alloc: Global,
+    disk: &mut D,
+    file: &str,
+    turns: u32,
+    length: u32,
+) -> Option<u32> {
+    let body = vec![in alloc; 1; length as usize].ok()?;
     let mut spool = recovered(disk, file)?;
     for _ in 0..turns {
-        spool = with_message(spool)?;
+        spool = with_message(spool, &body)?;
     }
     Some(spool.len())
 }
 
 // With an S6F11 put at its end.
-fn with_message<D: Disk + Drop>(spool: Spool<D>) -> Option<Spool<D>> {
+fn with_message<D: Disk + Drop>(spool: Spool<D>, body: &[u8]) -> Option<Spool<D>> {
     let message = Stored {
         stream: 6,
         function: 11,
-        body: &[1, 3, 0xB1, 4, 0, 0, 0, 0, 0xB1, 4, 0, 0, 0, 0, 1, 0],
+        body,
     };
     match spool.stage(&message) {
         Ok(staged) => staged.seal().ok(),

@@ -12,7 +12,7 @@ use gem_vars::VarsPlan;
 use gl_base::{NoMemory, Row};
 use line_end::{LinePlan, Times};
 use message_flow::{NodeInput, StepOut};
-use spool_file::{BODY_MOST, SLOT_SIZE, slot_place};
+use spool_file::{AREA, SLOT_SIZE, slot_place};
 use spool_slots::Raw;
 use std::alloc::Global;
 use std::process::ExitCode;
@@ -213,7 +213,7 @@ fn write_message(disk: &mut MemDisk, number: u32, slot: &mut [u8; SLOT_SIZE]) ->
     let mut gate = [0];
     done(disk.read(at, &mut gate))?;
     slot[1..9].copy_from_slice(&u64::from(number).to_be_bytes());
-    let length = u32::from_be_bytes([slot[11], slot[12], slot[13], slot[14]]).min(BODY_MOST);
+    let length = u32::from_be_bytes([slot[11], slot[12], slot[13], slot[14]]).min(AREA);
     done(settle(disk, at + 1, &slot[1..15 + length as usize]))?;
     done(settle(disk, at, &slot[..1]))
 }

@@ -9,11 +9,13 @@ use spool_ledger::{Ledger, WaitingText};
 use std::alloc::Global;
 
 // What a ledger is asked: to store an S6F11 of two bytes, with the spool full to keep what stands or to overwrite it;
-// to store one of 4,082 bytes; to take up the next message of an unload that ends behind so many; and the rest.
+// to store one that takes all of three slots, or a byte more; to take up the next message of an unload that ends behind
+// so many; and the rest.
 #[derive(Clone, Copy)]
 enum Asked {
     Store,
     StoreOver,
+    StoreWhole,
     StoreTooLong,
     Purge,
     Confirm,
@@ -79,8 +81,35 @@ static EMPTIED: [Asking; 7] = [
     (Asked::Store, b"storing 7 S6F11 W;stored 7;P", 7, 1),
 ];
 
+// Of one that is found with a message of one slot and one of two: the oldest leave while there is no room, and none for
+// a message that is too long.
+static SIZED: [Asking; 6] = [
+    (
+        Asked::StoreOver,
+        b"leaving 5 overwritten;gone 5;storing 8 S6F11 W;stored 8;DP",
+        6,
+        2,
+    ),
+    (
+        Asked::StoreOver,
+        b"leaving 6 overwritten;gone 6;storing 9 S6F11 W;stored 9;DP",
+        8,
+        2,
+    ),
+    (
+        Asked::StoreWhole,
+        b"leaving 8 overwritten;gone 8;leaving 9 overwritten;gone 9;storing 10 S6F11 W;stored 10;DDP",
+        10,
+        1,
+    ),
+    (Asked::Store, b"discarded S6F11 W;", 10, 1),
+    (Asked::StoreTooLong, b"toolong S6F11 W;", 10, 1),
+    (Asked::Purge, b"leaving 10 purged;gone 10;A", 13, 0),
+];
+
 // Of an empty spool with one number left.
-static LAST: [Asking; 3] = [
+static LAST: [Asking; 4] = [
+    (Asked::StoreWhole, b"!", 9_223_372_036_854_775_807, 0),
     (
         Asked::StoreOver,
         b"storing 9223372036854775807 S6F11 W;stored 9223372036854775807;P",
@@ -158,7 +187,8 @@ fn call(
     match asked {
         Asked::Store => return store(alloc, ledger, &[1, 0], false, out),
         Asked::StoreOver => return store(alloc, ledger, &[1, 0], true, out),
-        Asked::StoreTooLong => return store(alloc, ledger, &[0; 4082], true, out),
+        Asked::StoreWhole => return store(alloc, ledger, &[0; 12243], true, out),
+        Asked::StoreTooLong => return store(alloc, ledger, &[0; 12244], true, out),
         Asked::Purge => ledger.purge(alloc, out)?,
         Asked::Confirm => ledger.confirm(alloc, out)?,
         Asked::Begin => ledger.begin_unload(),
@@ -216,24 +246,31 @@ fn all_go(alloc: Global, ledger: &mut Ledger, askings: &[Asking]) -> bool {
 }
 
 fn overwrites(alloc: Global) -> bool {
-    let Ok(mut ledger) = Ledger::new(alloc, 3, 0, 0) else {
+    let Ok(mut ledger) = Ledger::new(alloc, 3, 0, &[]) else {
         return false;
     };
     all_go(alloc, &mut ledger, &ROWS) && all_go(alloc, &mut ledger, &LATER)
 }
 
 fn is_emptied(alloc: Global) -> bool {
-    let Ok(mut ledger) = Ledger::new(alloc, 3, 5, 2) else {
+    let Ok(mut ledger) = Ledger::new(alloc, 3, 5, &[1, 1]) else {
         return false;
     };
     all_go(alloc, &mut ledger, &FOUND) && all_go(alloc, &mut ledger, &EMPTIED)
 }
 
-fn ends(alloc: Global) -> bool {
-    let Ok(mut ledger) = Ledger::new(alloc, 3, 9_223_372_036_854_775_807, 0) else {
+fn makes_room(alloc: Global) -> bool {
+    let Ok(mut ledger) = Ledger::new(alloc, 3, 5, &[1, 2]) else {
         return false;
     };
-    let Ok(mut spent) = Ledger::new(alloc, 3, 9_223_372_036_854_775_808, 0) else {
+    all_go(alloc, &mut ledger, &SIZED)
+}
+
+fn ends(alloc: Global) -> bool {
+    let Ok(mut ledger) = Ledger::new(alloc, 3, 9_223_372_036_854_775_807, &[]) else {
+        return false;
+    };
+    let Ok(mut spent) = Ledger::new(alloc, 3, 9_223_372_036_854_775_808, &[]) else {
         return false;
     };
     all_go(alloc, &mut ledger, &LAST) && all_go(alloc, &mut spent, &SPENT)
@@ -261,7 +298,7 @@ static LEAVES: [Asking; 1] = [(Asked::Confirm, b"leaving 5 confirmed;gone 5;D", 
 
 // A text that waits is let go once, and its message stays under way: its reply takes it off the list.
 fn lets_go_once(alloc: Global) -> bool {
-    let Ok(mut ledger) = Ledger::new(alloc, 3, 5, 2) else {
+    let Ok(mut ledger) = Ledger::new(alloc, 3, 5, &[1, 1]) else {
         return false;
     };
     takes_up(alloc, &mut ledger).is_ok()
@@ -275,7 +312,7 @@ static STAYS: [Asking; 2] = [(Asked::Confirm, b"", 5, 2), (Asked::TakeUp(0), b""
 
 // An unload that ends keeps its message: a late reply removes nothing, and no other message is taken up.
 fn stays(alloc: Global) -> bool {
-    let Ok(mut ledger) = Ledger::new(alloc, 3, 5, 2) else {
+    let Ok(mut ledger) = Ledger::new(alloc, 3, 5, &[1, 1]) else {
         return false;
     };
     let is_taken = takes_up(alloc, &mut ledger).is_ok();
@@ -288,6 +325,7 @@ fn each_call_is_told(rt: HostRuntime) {
     let alloc = rt.alloc();
     assert!(rt; overwrites(alloc));
     assert!(rt; is_emptied(alloc));
+    assert!(rt; makes_room(alloc));
     assert!(rt; ends(alloc));
 }
 
