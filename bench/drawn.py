@@ -2,10 +2,15 @@
 power."""
 import random
 
-# Report 10 has both variables, and both events have it.
-REPORTED = ["host send S2F33 W <L <U4 1> <L <L <U4 10> <L <U4 1> <U4 2>>>>>", "settle",
+
+def reported(repeats=1):
+    """Report 10 has both variables, the second one so often, and event 1 has it."""
+    return [f"host send S2F33 W <L <U4 1> <L <L <U4 10> <L <U4 1>{' <U4 2>' * repeats}>>>>", "settle",
             "host send S2F35 W <L <U4 2> <L <L <U4 1> <L <U4 10>>>>>", "settle",
             "host send S2F37 W <L <BOOLEAN 01> <L>>", "settle"]
+
+
+REPORTED = reported()
 SPOOLED = ["host send S6F23 W <U1 0>", "settle"]
 PURGED = ["host send S6F23 W <U1 1>", "settle"]
 
@@ -50,23 +55,33 @@ class Drawing:
     def __init__(self, rng):
         self.rng, self.value = rng, 0
         self.retries = rng.choice([0, 0, 1, 1, 2])
-        self.long = rng.random() < 0.15             # whether a report takes two blocks
+        self.slots, self.repeats, self.max_body = rng.choice([1, 2, 2, 3, 4, 6]), 1, rng.choice([None] * 3 + [400])
+        # What lengths the second variable has, its first one, and how often it is set: a report takes one block, or two,
+        # or slots of the spool, as a text does then, and both may take more than there are.
+        self.lengths, self.first, self.often = rng.choice([([0, 1, 3], 0, 2)] * 11 + [([3, 240], 230, 2)] * 3
+                                                          + [([0, 1300, 4000, 4000], 4000, 8)] * 6)
+        self.texts = [0]
+        if self.often > 2:
+            self.slots, self.repeats, self.max_body = rng.choice([2, 3, 4, 5, 9]), rng.choice([1, 2, 3, 3]), None
+            self.texts = [0, 4070, 4080, 9000]
+        self.reported = reported(self.repeats)
 
     def plan(self):
         pick = self.rng.choice
         spooled = pick([None, None, None, '["S6F11"]', '["S5F1", "S10F1"]', "[]"])
         return "\n".join([
-            "[line]", f"rty = {self.retries}", "t3 = 25000", *pick([[], [], [], ["max_body = 400"]]),
-            "[equipment]", f"slots = {pick([1, 2, 2, 3, 4, 6])}", f"overwrite = {pick(['true', 'false'])}",
+            "[line]", f"rty = {self.retries}", "t3 = 25000",
+            *([f"max_body = {self.max_body}"] if self.max_body else []),
+            "[equipment]", f"slots = {self.slots}", f"overwrite = {pick(['true', 'false'])}",
             f"max_transmit = {pick([0, 0, 0, 1, 2])}", f"enable_spool = {pick(['true', 'true', 'true', 'false'])}",
             f"delay = {pick([1, 5, 15])}", *([f"spooled = {spooled}"] if spooled else []),
             "[[variable]]", "vid = 1", 'value = "<U4 0>"',
-            "[[variable]]", "vid = 2", f"value = '<A \"{'x' * (230 if self.long else 0)}\">'",
+            "[[variable]]", "vid = 2", f"value = '<A \"{'x' * self.first}\">'",
             "[[event]]", "ceid = 1", "[[event]]", "ceid = 2",
             "[[alarm]]", "alid = 7", "category = 3", 'text = "HOT"', ""])
 
     def schedule(self):
-        pick, lines = self.rng.choice, ["settle", *REPORTED]
+        pick, lines = self.rng.choice, ["settle", *self.reported]
         if self.rng.random() < 0.05:
             lines += self.many_traces()
         if self.rng.random() < 0.8:
@@ -89,10 +104,10 @@ class Drawing:
         self.value += 1
         return self.some([
             (13, lambda: [f"tool set 1 <U4 {self.value}>"]),
-            (2, lambda: [f'tool set 2 <A "{self.letters(pick([3, 240] if self.long else [0, 1, 3]))}">']),
+            (self.often, lambda: [f'tool set 2 <A "{self.letters(pick(self.lengths))}">']),
             (21, lambda: [f"tool event {pick([1, 1, 1, 2])}"]),
             (5, lambda: [f"tool alarm 7 {pick(['set', 'clear'])}"]),
-            (4, lambda: [f'tool terminal {rng.randrange(3)} <A "t{self.value}">']),
+            (4, lambda: [f'tool terminal {rng.randrange(3)} <A "t{self.value}{self.letters(pick(self.texts))}">']),
             (12, lambda: ["settle"]),
             (9, lambda: [f"host send S6F23 W <U1 {pick([0, 0, 0, 0, 1])}>"] + pick([[], ["settle"]])),
             (6, lambda: [f"to {pick('EH')} {rng.randrange(1, 70)}" for _ in range(rng.randrange(1, 4))]),
@@ -101,7 +116,7 @@ class Drawing:
             (1, lambda: [f"add {pick('EH')} {pick([5, 4, 6, 0x15, rng.randrange(256)]):02X}"]),
             (6, lambda: [f"wait {pick([500, 1000, 5000, 10000, 10000, 25000, 45000])}"]),
             (4, lambda: self.failure() + pick([[], ["settle"]])),
-            (2, lambda: list(REPORTED)),
+            (2, lambda: list(self.reported)),
             (6, lambda: [f"host send {pick(pick([TABLES, SPOOLING, OTHERS]))}", pick(["settle"] * 2 + ["to E 1"])]),
             (4, lambda: pick(STATES))])
 
@@ -176,5 +191,6 @@ class Drawing:
         choice = pick(["old", "new", "new", "fill 5A", f"fill {rng.randrange(256):02X}", f"first {rng.randrange(3)}"])
         ways = [self.line, self.events, lambda: ["settle"], lambda: SPOOLED, lambda: PURGED, self.unload, self.failure]
         lines = list(pick(ways)())
-        lines.insert(rng.randrange(len(lines)), f"cut {pick([1, 1, 2, 2, 3, 3, 4, 4, 5, 5, 6, 7, 8, 12])} {choice}")
-        return lines + pick([["settle", *REPORTED], ["settle", *REPORTED], ["settle"], []])
+        call = pick([1, 1, 2, 2, 3, 3, 4, 4, 5, 5, 6, 7, 8, 10, 12, 15])
+        lines.insert(rng.randrange(len(lines)), f"cut {call} {choice}")
+        return lines + pick([["settle", *self.reported], ["settle", *self.reported], ["settle"], []])

@@ -1,16 +1,23 @@
 """A reading of the spool file: the calls of the disk that each work makes, and what a loss of power at one of them leaves.
 
-A slot has a gate, which is open where its byte is 5A, and a message stands where it is open and its number is at least
-the floor. A message is put into the slot of its number: one that isn't full of what stands, but may be open still, with
-a number below the floor; then it is closed before anything is written there. A message leaves by its gate, and all of
-them at once by the floor, which becomes the next number. Mark and floor are cells: two copies of a number, and a gate
-whose lowest bit names the one that counts.
+A slot has a gate, which is open where its byte is 5A, and a message stands where the slot of its number is open and the
+number is at least the floor. A message takes as many slots as its body needs, and as many numbers. These slots hold
+nothing that stands, but may be open still, with numbers below the floor; then they are closed before anything is
+written there. Its first slot's gate lets it stand. A message leaves by that gate, and all of them at once by the floor,
+which becomes the next number. Mark and floor are cells: two copies of a number, and a gate whose lowest bit names the
+one that counts.
 
-So a work is a row of updates, and an update changes the file by one gate. The calls in front of that gate change
-nothing, and at the gate's write or the sync behind it the byte that the disk keeps decides.
+So a work is a row of updates, and an update changes the file by gates that one sync settles. The calls in front of
+these change nothing, and at a gate's write or the sync the bytes that the disk keeps decide.
 """
 OPEN = 0x5A
 STEP = 4096
+AREA = 4081
+
+
+def size_of(body):
+    """How many slots a message takes."""
+    return max(1, -(-len(body) // AREA))
 
 
 class Cut:
@@ -20,19 +27,37 @@ class Cut:
         self.call, (self.choice, *value) = int(words[0]), words[1:]
         self.value = int(value[0], 16 if self.choice == "fill" else 10) if value else None
 
-    def keeps(self, means):
-        """Whether the gate is as it was written, where so a byte means what was."""
+    def keeps(self, gate, place):
+        """Whether the gate, at this place among those that aren't settled, is as it was written, or means so."""
         if self.choice == "fill":
-            return means(self.value)
-        return self.choice == "new" or self.choice == "first" and self.value > 0
+            return gate.means(self.value)
+        return self.choice == "new" or self.choice == "first" and place < self.value
+
+
+class Gate:
+    """A byte of the disk that is written, what bytes mean the same, and what they change."""
+
+    def __init__(self, at, means, change):
+        self.at, self.means, self.change = at, means, change
 
 
 class Update:
-    """Calls that change nothing, and then a gate, whose new byte means this, with its sync."""
+    """Calls that change nothing, and then gates, in a write each, with a sync behind them."""
 
-    def __init__(self, early, means=None, change=None):
-        self.early, self.means, self.change = early, means, change
-        self.calls = early + (2 if change else 0)
+    def __init__(self, early, *gates):
+        self.early, self.gates = early, gates
+        self.calls = early + (len(gates) + 1 if gates else 0)
+
+    def carry_out(self):
+        for gate in self.gates:
+            gate.change()
+
+    def lose(self, call, cut):
+        """Power goes at this call."""
+        written = self.gates[:max(0, call - self.early)]
+        for place, gate in enumerate(sorted(written, key=lambda gate: gate.at)):
+            if cut.keeps(gate, place):
+                gate.change()
 
 
 def is_open(byte):
@@ -53,56 +78,64 @@ class Cell:
 
         def change():
             self.value, self.parity = value, parity
-        return Update(3, lambda byte: byte % 2 == parity, change)
+        return Update(3, Gate(0, lambda byte: byte % 2 == parity, change))
 
 
 class File:
     def __init__(self, slots):
         self.mark, self.floor, self.next = Cell(), Cell(), 0
         self.open = {}                              # the open slots, and the numbers of their messages
+        self.sizes = {}                             # how many slots messages take, by their numbers
         self.slots = slots
 
     def standing(self):
         return sorted(number for number in self.open.values() if number >= self.floor.value)
 
+    def used(self):
+        return sum(self.sizes[number] for number in self.standing())
+
     def start(self):
         """What is known of the next number is what stands."""
         standing = self.standing()
-        self.next = standing[-1] + 1 if standing else self.floor.value
+        self.next = standing[-1] + self.sizes[standing[-1]] if standing else self.floor.value
 
-    def updates(self, work):
-        slot, standing = self.next % self.slots, self.standing()
+    def updates(self, work, size):
+        """What a work does. A message that is put takes so many slots."""
+        standing = self.standing()
         if work == "put":
-            look = [Update(1, is_closed, lambda: self.open.pop(slot)), Update(2, is_open, self.put)]
-            return look if slot in self.open else [Update(3, is_open, self.put)]
+            slots = [number % self.slots for number in range(self.next, self.next + size)]
+            stale = [self.closing(slot) for slot in slots if slot in self.open]
+            put = size + 1, Gate(slots[0], is_open, lambda: self.put(size))
+            return [Update(size, *stale), Update(*put)] if stale else [Update(size + put[0], put[1])]
         if work == "drop":
-            return [Update(0, is_closed, lambda: self.open.pop(standing[0] % self.slots))]
+            return [Update(1, self.closing(standing[0] % self.slots))]
         if work == "purge":
             return [self.floor.to(self.next)]
         if work == "reserve":
             return [self.mark.to(self.mark.value + STEP)]
-        return [Update(1)]                            # the oldest message is read
+        return [Update(self.sizes[standing[0]])]      # the oldest message is read
 
-    def put(self):
+    def closing(self, slot):
+        return Gate(slot, is_closed, lambda: self.open.pop(slot))
+
+    def put(self, size):
         self.open[self.next % self.slots] = self.next
-        self.next += 1
+        self.sizes[self.next] = size
+        self.next += size
 
-    def carry_out(self, work):
+    def carry_out(self, work, size=1):
         """Carries it out, and answers how many calls that takes."""
-        updates = self.updates(work)
+        updates = self.updates(work, size)
         for update in updates:
-            if update.change:
-                update.change()
+            update.carry_out()
         return sum(update.calls for update in updates)
 
-    def lose(self, work, call, cut):
+    def lose(self, work, call, cut, size=1):
         """Power goes at this call of the work. Answers whether the work has such a call."""
-        for update in self.updates(work):
+        for update in self.updates(work, size):
             if call <= update.calls:
-                if call > update.early and cut.keeps(update.means):
-                    update.change()
+                update.lose(call, cut)
                 return True
             call -= update.calls
-            if update.change:
-                update.change()
+            update.carry_out()
         return False

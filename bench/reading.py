@@ -8,7 +8,9 @@
    them by a purge, and one that was being stored may stand last: which of both is so the call of the disk at which
    power went decides, and what became of the byte written there (keeping.py). The first that stands is the one that
    leaves: confirmed where the host has taken it, purged where the host has just asked for that, overwritten where the
-   constant says so and each slot is used. Each message that is stored has the next number.
+   constant says so and the slots don't hold all that stand and the message that is made, which is stored behind it
+   then, or one more leaves for it. Each message that is stored has the next number, the one behind the slots of the
+   last one. A report is discarded only for want of slots, and too long only for the line or for all slots.
 4. The host takes what was stored in order, each perhaps more than once in a row, and skips only what was purged or
    overwritten.
 5. S2F24 has the code that is due to its S2F23. An S6F1 has the values that its variables had at the samples of a trace
@@ -23,11 +25,13 @@ it leaves. Nor does it say whether a request without W was accepted, which is ju
 import copy
 import tomllib
 
-from keeping import Cut, File
+from keeping import Cut, File, size_of
 from spelling import headed, leave_for, list_of, parsed, spelled, u4
 from tracing import MOVES, Tracing, moments_of
 
 DONE = "210100"
+# The longest text that the spool takes.
+MOST_STORED = 1 << 20
 MOST = (1 << 32) - 1
 
 
@@ -141,6 +145,7 @@ class Message:
 
     def __init__(self, name, body):
         self.name, self.body = name, body
+        self.size = size_of(body or b"")            # in slots
 
 
 class Put:
@@ -189,6 +194,7 @@ class Reading:
         self.open = {}                              # what waits for a reply, by the system bytes that were sent
         self.failed = []                            # what was open when the communication was lost, to be stored
         self.made = None                            # what this step has made
+        self.used = []                              # by how many slots, before each that left for the next one
         self.request = self.silent = self.last_received = None
         self.before = []
 
@@ -225,6 +231,9 @@ class Reading:
             if side == "E" and self.moving and kind not in ("stored", "gone", "power", "start"):
                 self.breaks("nothing comes between the two lines of a message that moves")
                 self.moving = None
+            if side == "E" and self.used and kind not in ("leaving", "gone", "storing", "power", "start"):
+                self.breaks("no message is stored for which one left")
+                self.used = []
             if side == "E" and self.silent:
                 self.judge(kind)
             if side == "E" and self.is_short and kind not in ("power", "start"):
@@ -288,8 +297,8 @@ class Reading:
 
     # Power, and the disk.
 
-    def carry_out(self, work):
-        calls = self.file.carry_out(work)
+    def carry_out(self, work, size=1):
+        calls = self.file.carry_out(work, size)
         if self.calls is not None:
             self.calls += calls
 
@@ -301,6 +310,9 @@ class Reading:
     def work(self):
         kind, put = self.moving
         return "put" if kind == "storing" else "purge" if put.why == "purged" else "drop"
+
+    def size(self):
+        return self.moving[1].message.size
 
     def tool_power(self):
         self.losses += 1
@@ -319,13 +331,13 @@ class Reading:
         if self.is_short:
             self.calls += 5
         call = cut.call - self.calls
-        if call < 1 or self.moving and not self.file.lose(self.work(), call, cut):
+        if call < 1 or self.moving and not self.file.lose(self.work(), call, cut, self.size()):
             self.breaks(f"this is no loss at call {cut.call}, for {self.calls} are made before")
 
     def guess(self, found, base):
         """Where calls aren't counted, what a start finds says whether a work was done."""
         if self.moving and found != len(self.standing):
-            self.file.carry_out(self.work())
+            self.file.carry_out(self.work(), self.size())
         if self.is_short and base != self.file.mark.value:
             self.file.carry_out("reserve")
 
@@ -467,15 +479,30 @@ class Reading:
             self.new(" ".join(name))
 
     def tool_toolong(self, *name):
-        self.new_or_failed(" ".join(name))
+        message = self.new_or_failed(" ".join(name))
+        most = min(self.plan.max_body, MOST_STORED)
+        if message and message.size <= self.plan.slots and len(message.body) <= most:
+            self.breaks("it isn't too long")
 
     def tool_discarded(self, *name):
-        self.new_or_failed(" ".join(name))
+        message = self.new_or_failed(" ".join(name))
+        if self.tables.overwrites:
+            self.breaks("the oldest are to leave for it")
+        if message:
+            self.breaks_by(self.has_room(message, self.file.used()))
 
     def new_or_failed(self, name):
         if self.failed and self.failed[0].name == name:
             return self.failed.pop(0)
         return self.new(name)
+
+    def has_room(self, message, used):
+        """What is wrong where there is to be no room for it beside so many slots that are used."""
+        if message.size > self.plan.slots:
+            return f"{message.size} slots are never free"
+        if used + message.size <= self.plan.slots:
+            return f"{used} of {self.plan.slots} slots were used, and it takes {message.size}"
+        return None
 
     def tool_control(self, state):
         self.is_online = state in ONLINE
@@ -493,6 +520,9 @@ class Reading:
         if not message or message.name != name:
             self.breaks(f"{message.name if message else 'nothing'} is to be stored here")
             message = Message(name, None)
+        for used in self.used:
+            self.breaks_by(self.has_room(message, used))
+        self.used = []
         if int(number) != self.file.next:
             self.breaks(f"its number is {self.file.next}")
         self.puts.append(Put(int(number), message))
@@ -500,7 +530,7 @@ class Reading:
 
     def tool_stored(self, number):
         if self.ends("storing", number):
-            self.carry_out("put")
+            self.carry_out("put", self.size())
             self.standing.append(self.moving[1])
         self.moving = None
 
@@ -514,8 +544,8 @@ class Reading:
             self.breaks("the host hasn't asked for that")
         if cause == "overwritten" and not self.tables.overwrites:
             self.breaks("the constant forbids that")
-        if cause == "overwritten" and len(self.standing) < self.plan.slots:
-            self.breaks(f"{len(self.standing)} of {self.plan.slots} slots are used")
+        if cause == "overwritten":
+            self.used.append(self.file.used())
         put.why = cause
         self.moving = ("leaving", put)
 

@@ -26,14 +26,14 @@ class Replays:
         ran = subprocess.run([self.gemline, "replay", *files], capture_output=True, text=True)
         return ran.stdout.splitlines(), ran.returncode
 
-    def read(self, name, plan, schedule):
-        """Runs one, says what its trace breaks, and answers the trace."""
+    def read(self, name, plan, schedule, ends=0):
+        """Runs one, which ends with this status but for a slip, says what its trace breaks, and answers the trace."""
         trace, status = self.run(plan, schedule)
         reading, lines = Reading(plan, schedule), schedule.splitlines(keepends=True)
         begins = [self.length(plan, "".join(lines[:place])) for place in reading.places()]
         broken = reading.read(trace, begins)
         self.calls = reading.counted
-        wanted = 76 if is_slip(trace[-1:]) else 0
+        wanted = 76 if is_slip(trace[-1:]) else ends
         if status != wanted:
             broken.append(f"status {status} where {wanted} is wanted")
         for line in trace:
