@@ -64,6 +64,7 @@ CASES = [
     replays("a handshake", "schedules/empty.plan", "schedules/first-message.schedule"),
     replays("a report", "schedules/first-report.plan", "schedules/first-report.schedule"),
     replays("a message taken twice", "spooling/in-parts.plan", "spooling/in-parts.schedule"),
+    replays("a message of two slots", "spooling/tool.plan", "spooling/two-slots.schedule"),
     replays("power lost", "losses/tool.plan", "losses/overwritten.schedule"),
     replays("no plan", "schedules/refused-plan.plan", "schedules/nothing.schedule", 65),
     Case("make", ["make", "3"]),
