@@ -28,6 +28,7 @@ pub struct FileDisk<R: rt::Files> {
     attached: AttachedFile,
     size: u64,
     faults: u64,
+    reason: Option<io::Error>,
 }
 
 impl<R: rt::Files> FileDisk<R> {
@@ -41,30 +42,37 @@ impl<R: rt::Files> FileDisk<R> {
             attached: AttachedFile::none(),
             size: 0,
             faults: 0,
+            reason: None,
         }
     }
 
+    /// Why the last call failed that did.
+    pub fn reason(&self) -> Option<&io::Error> {
+        self.reason.as_ref()
+    }
+
     // The disk's answer where the system gave this one, which is counted where it is a fault.
-    fn counts<T>(&mut self, answer: &io::Result<T>) -> DiskAnswer
-        ensures answer { result ≡ answer_of answer.now }
+    fn counts<T: Drop>(&mut self, answer: io::Result<T>) -> DiskAnswer
+        ensures answer { result ≡ answer_of answer }
         ensures count { Counts self.old.faults self.new.faults result }
         ensures size { self.new.size ≡ self.old.size }
         ensures attached { self.new.attached ≡ self.old.attached }
     {
         match answer {
             Ok(_) => DiskAnswer::Done,
-            Err(_) => self.fail(),
+            Err(error) => self.fail(error),
         }
     }
 
     // Counts a fault.
-    fn fail(&mut self) -> DiskAnswer
+    fn fail(&mut self, reason: io::Error) -> DiskAnswer
         ensures failed { result ≡ DiskAnswer.Failed }
         ensures rose { Rose self.old.faults self.new.faults }
         ensures size { self.new.size ≡ self.old.size }
         ensures attached { self.new.attached ≡ self.old.attached }
     {
         self.faults = self.faults.saturating_add(1);
+        self.reason = Some(reason);
         DiskAnswer::Failed
     }
 }
@@ -99,7 +107,7 @@ where
                 self.size = size;
                 DiskAnswer::Done
             }
-            Err(_) => self.fail(),
+            Err(error) => self.fail(error),
         }
     }
 
@@ -112,7 +120,7 @@ where
             Some(file) => file.read_exact_at(into, at),
             None => Err(io::Error::from(io::ErrorKind::NotFound)),
         };
-        self.counts(&answer)
+        self.counts(answer)
     }
 
     fn write(&mut self, at: u64, bytes: &[u8]) -> DiskAnswer {
@@ -120,7 +128,7 @@ where
             Some(file) => file.write_all_at(bytes, at),
             None => Err(io::Error::from(io::ErrorKind::NotFound)),
         };
-        self.counts(&answer)
+        self.counts(answer)
     }
 
     fn sync(&mut self) -> DiskAnswer {
@@ -128,7 +136,7 @@ where
             Some(file) => file.sync_all(),
             None => Err(io::Error::from(io::ErrorKind::NotFound)),
         };
-        self.counts(&answer)
+        self.counts(answer)
     }
 }
 

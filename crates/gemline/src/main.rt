@@ -2,18 +2,13 @@
 #![tactic(auto)]
 
 mod arguments;
-mod host_files;
-mod reading;
-mod writing;
 
 use arguments::run_arguments;
 use file_disk::FileDisk;
-use host_files::HostFiles;
-use reading::Reading;
 use std::env;
 use std::process::ExitCode;
+use system_io::{HostFiles, Reading, Writing};
 use tcp_link::TcpLink;
-use writing::Writing;
 
 fn main(rt: HostRuntime) -> ExitCode {
     run_arguments(

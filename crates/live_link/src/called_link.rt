@@ -36,6 +36,7 @@ pub struct CalledLink<R: Net> {
     line: Option<Line<R::Listener, R::Stream>>,
     moment: u64,
     faults: u64,
+    reason: Option<io::Error>,
     connections: Connections,
 }
 
@@ -69,8 +70,32 @@ impl<R: Net + Clock> CalledLink<R> {
             line: None,
             moment: 0,
             faults: 0,
+            reason: None,
             connections: Connections::none(),
         })
+    }
+
+    /// The moment of the last answer.
+    pub fn moment(&self) -> u64
+        ensures { result ≡ self.now.moment }
+    {
+        self.moment
+    }
+
+    /// Why it can't listen, where it was asked to and can't.
+    pub fn reason(&self) -> Option<&io::Error> {
+        self.reason.as_ref()
+    }
+
+    /// Fails a wait over it that has looked in vain as often as can be counted.
+    pub fn give_up(&mut self) -> LinkIn
+        ensures failed { result ≡ link.Failed }
+        ensures rose { Rose self.old.faults self.new.faults }
+        ensures connections { self.new.connections ≡ self.old.connections }
+        ensures moment { self.new.moment ≡ self.old.moment }
+    {
+        self.faults = self.faults.saturating_add(1);
+        LinkIn::Failed
     }
 
     /// From where the peer has called that is at the line, if one is.
@@ -145,7 +170,10 @@ impl<R: Net + Clock> Link for CalledLink<R> {
                     self.line = Some(line);
                     LinkAnswer::Done
                 }
-                Err(_) => self.fail(),
+                Err(error) => {
+                    self.reason = Some(error);
+                    self.fail()
+                }
             },
             Side::Host => self.fail(),
         }
@@ -170,8 +198,7 @@ impl<R: Net + Clock> Link for CalledLink<R> {
                 answer => return answer,
             }
         }
-        self.faults = self.faults.saturating_add(1);
-        LinkIn::Failed
+        self.give_up()
     }
 
     fn send(&mut self, bytes: &[u8]) -> LinkAnswer

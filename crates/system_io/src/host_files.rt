@@ -8,7 +8,7 @@ ghost use Rattle.gl_base.specs.declared.files.MemFile.{MemFile};
 use crate::reading::Reading;
 use gl_base::{FileAnswer, Files, Input, Source, read_all};
 use std::alloc::Global;
-use std::{fs, rt};
+use std::{fs, io, rt};
 
 /// The files of the system, which tell nothing of their bytes. It counts its faults: a file that can't be opened,
 /// and a read that fails, as a folder's does.
@@ -16,14 +16,24 @@ use std::{fs, rt};
 pub struct HostFiles<R> {
     system: R,
     faults: u64,
+    reason: Option<io::Error>,
 }
 
 impl<R> HostFiles<R> {
     /// No fault yet.
     pub fn new(system: R) -> HostFiles<R>
-        ensures { result ≡ record { system = system; faults = 0 } }
+        ensures { result ≡ record { system = system; faults = 0; reason = None } }
     {
-        HostFiles { system, faults: 0 }
+        HostFiles {
+            system,
+            faults: 0,
+            reason: None,
+        }
+    }
+
+    /// Why the last file couldn't be read that couldn't.
+    pub fn reason(&self) -> Option<&io::Error> {
+        self.reason.as_ref()
     }
 }
 
@@ -42,8 +52,16 @@ impl<R: rt::Files> Files for HostFiles<R> {
             result }
     {
         let answer = match fs::open(&self.system, name) {
-            Ok(file) => answer_from(alloc, &mut Reading::new(file), limit),
-            Err(_) => FileAnswer::Failed,
+            Ok(file) => {
+                let mut reading = Reading::new(file);
+                let answer = answer_from(alloc, &mut reading, limit);
+                self.reason = reading.take_reason();
+                answer
+            }
+            Err(error) => {
+                self.reason = Some(error);
+                FileAnswer::Failed
+            }
         };
         if let FileAnswer::Failed = answer {
             self.faults = self.faults.saturating_add(1);

@@ -2,9 +2,10 @@
 
 ghost use Rattle.std.specs.Prelude.{◌≡◌, ◌<◌, false, length, None};
 ghost use Rattle.gl_base.specs.Source.{HasReadCause, Reads, SourceHealth, TakesWithin};
-ghost use Rattle.gemline.specs.Passing.{ReadsOn};
+ghost use Rattle.system_io.specs.Passing.{ReadsOn};
 
 use gl_base::{ReadAnswer, Source};
+use std::io;
 use std::io::Read;
 
 /// A real object to read from, which tells nothing of its bytes and counts its faults.
@@ -12,14 +13,24 @@ use std::io::Read;
 pub struct Reading<R> {
     inner: R,
     faults: u64,
+    reason: Option<io::Error>,
 }
 
 impl<R> Reading<R> {
     /// No fault yet.
     pub fn new(inner: R) -> Reading<R>
-        ensures { result ≡ record { inner = inner; faults = 0 } }
+        ensures { result ≡ record { inner = inner; faults = 0; reason = None } }
     {
-        Reading { inner, faults: 0 }
+        Reading {
+            inner,
+            faults: 0,
+            reason: None,
+        }
+    }
+
+    /// Why the last read failed that did. It is told once.
+    pub fn take_reason(&mut self) -> Option<io::Error> {
+        self.reason.take()
     }
 }
 
@@ -41,8 +52,9 @@ impl<R: Read> Source for Reading<R> {
         match self.inner.read(into) {
             Ok(0) => ReadAnswer::End,
             Ok(n) => ReadAnswer::Took(n),
-            Err(_) => {
+            Err(error) => {
                 self.faults = self.faults.saturating_add(1);
+                self.reason = Some(error);
                 ReadAnswer::Failed
             }
         }

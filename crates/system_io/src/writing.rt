@@ -1,10 +1,13 @@
 //! Anything that the system writes to as a `Sink`: standard output, and standard error.
 
 ghost use Rattle.std.specs.Prelude.{◌≡◌, ◌<◌, length, None};
+ghost use Rattle.gl_base.specs.Faults.{Rose};
+ghost use Rattle.gl_base.specs.declared.sink.WriteAnswer.{WriteAnswer};
 ghost use Rattle.gl_base.specs.Sink.{HasWriteCause, SinkHealth, Writes, WritesWithin};
-ghost use Rattle.gemline.specs.Passing.{WritesOn};
+ghost use Rattle.system_io.specs.Passing.{WritesOn};
 
 use gl_base::{Sink, WriteAnswer};
+use std::io;
 use std::io::Write;
 
 /// A real object to write to, which tells nothing of its bytes and counts its faults.
@@ -12,14 +15,37 @@ use std::io::Write;
 pub struct Writing<W> {
     inner: W,
     faults: u64,
+    reason: Option<io::Error>,
 }
 
 impl<W> Writing<W> {
     /// No fault yet.
     pub fn new(inner: W) -> Writing<W>
-        ensures { result ≡ record { inner = inner; faults = 0 } }
+        ensures { result ≡ record { inner = inner; faults = 0; reason = None } }
     {
-        Writing { inner, faults: 0 }
+        Writing {
+            inner,
+            faults: 0,
+            reason: None,
+        }
+    }
+
+    /// Why the last write failed that did.
+    pub fn reason(&self) -> Option<&io::Error> {
+        self.reason.as_ref()
+    }
+}
+
+impl<W> Writing<W> {
+    // Counts a fault.
+    fn fail(&mut self, reason: Option<io::Error>) -> WriteAnswer
+        ensures failed { result ≡ WriteAnswer.Failed }
+        ensures rose { Rose self.old.faults self.new.faults }
+        ensures inner { self.new.inner ≡ self.old.inner }
+    {
+        self.faults = self.faults.saturating_add(1);
+        self.reason = reason;
+        WriteAnswer::Failed
     }
 }
 
@@ -42,10 +68,8 @@ impl<W: Write> Sink for Writing<W> {
     {
         match self.inner.write(bytes) {
             Ok(n) if n > 0 => WriteAnswer::Took(n),
-            _ => {
-                self.faults = self.faults.saturating_add(1);
-                WriteAnswer::Failed
-            }
+            Ok(_) => self.fail(None),
+            Err(error) => self.fail(Some(error)),
         }
     }
 }
