@@ -15,9 +15,9 @@ mod words;
 
 pub use event::Event;
 pub use laws::readers_find_the_meaning;
-pub use lines::split_line;
+pub use lines::{is_passed_over, split_line};
 pub use schedule::{
     JournalSchedule, Schedule, ScheduleFault, read_journal_schedule, read_schedule,
 };
-pub use script::{Script, ScriptStep, read_script};
+pub use script::{Script, ScriptStep, read_script, step_in};
 pub use words::{is_word, number_in, place_of};

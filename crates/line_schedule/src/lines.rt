@@ -19,7 +19,7 @@ pub fn split_line(text: &[u8]) -> (&[u8], &[u8])
 }
 
 /// Whether the line is empty or a comment.
-pub(crate) fn is_passed_over(line: &[u8]) -> bool
+pub fn is_passed_over(line: &[u8]) -> bool
     ensures { result ≡ is_passed_over line.now }
 {
     match line.split_first() {

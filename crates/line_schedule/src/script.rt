@@ -168,7 +168,8 @@ fn script_line_in(
     }
 }
 
-fn step_in(alloc: Global, text: &[u8], side: Side) -> Result<Option<ScriptStep>, NoMemory>
+/// What a text of this end tells: a command of it, or that it stops.
+pub fn step_in(alloc: Global, text: &[u8], side: Side) -> Result<Option<ScriptStep>, NoMemory>
     ensures { IfOk result (λ step. step ≡ step_in side text.now) }
 {
     if let Some(step) = command_in(alloc, text, side)? {
