@@ -1,6 +1,7 @@
 //! The calls of a disk by those of the system, over any system that has files; its test has a real one.
 
 ghost use Rattle.std.specs.Prelude.{◌≡◌, ◌≤◌, IfOk, None};
+ghost use Rattle.std.specs.Option.{option_map};
 ghost use Rattle.disk_base.specs.Faults.{Rose};
 ghost use Rattle.disk_base.specs.declared.disk.DiskAnswer.{DiskAnswer};
 ghost use Rattle.file_disk.specs.FileDisk.{Counts, answer_of, file_health};
@@ -47,7 +48,9 @@ impl<R: rt::Files> FileDisk<R> {
     }
 
     /// Why the last call failed that did.
-    pub fn reason(&self) -> Option<&io::Error> {
+    pub fn reason(&self) -> Option<&io::Error>
+        ensures { option_map (λ reason. reason.now) result ≡ self.now.reason }
+    {
         self.reason.as_ref()
     }
 

@@ -1,6 +1,7 @@
 //! The calls of a link by a line to whoever calls, over any system that has connections; its test has a real one.
 
 ghost use Rattle.std.specs.Prelude.{◌≡◌, ◌≢◌, ◌<◌, ◌≤◌, ◌^◌, IfOk, None, length};
+ghost use Rattle.std.specs.Option.{option_map};
 ghost use Rattle.std.specs.Io.KnownBytes.{Keeps, prepend_known};
 ghost use Rattle.gl_base.specs.Connections.{connected_as, not_connected};
 ghost use Rattle.gl_base.specs.Events.{moment_after};
@@ -83,7 +84,9 @@ impl<R: Net + Clock> CalledLink<R> {
     }
 
     /// Why it can't listen, where it was asked to and can't.
-    pub fn reason(&self) -> Option<&io::Error> {
+    pub fn reason(&self) -> Option<&io::Error>
+        ensures { option_map (λ reason. reason.now) result ≡ self.now.reason }
+    {
         self.reason.as_ref()
     }
 

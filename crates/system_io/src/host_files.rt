@@ -1,6 +1,7 @@
 //! The files of the system as `Files`, of which the top call reads plans and schedules.
 
 ghost use Rattle.std.specs.Prelude.{◌≡◌, ℕ, false, List, Option, Some, None};
+ghost use Rattle.std.specs.Option.{option_map};
 ghost use Rattle.gl_base.specs.Files.{FileIsWithin, FilesHealth, HasFileCause, ReadsFile, ReadsFileOf};
 ghost use Rattle.gl_base.specs.Source.{ReadFault};
 ghost use Rattle.gl_base.specs.declared.files.MemFile.{MemFile};
@@ -32,7 +33,9 @@ impl<R> HostFiles<R> {
     }
 
     /// Why the last file couldn't be read that couldn't.
-    pub fn reason(&self) -> Option<&io::Error> {
+    pub fn reason(&self) -> Option<&io::Error>
+        ensures { option_map (λ reason. reason.now) result ≡ self.now.reason }
+    {
         self.reason.as_ref()
     }
 }

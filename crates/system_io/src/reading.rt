@@ -29,7 +29,10 @@ impl<R> Reading<R> {
     }
 
     /// Why the last read failed that did. It is told once.
-    pub fn take_reason(&mut self) -> Option<io::Error> {
+    pub fn take_reason(&mut self) -> Option<io::Error>
+        ensures told { result ≡ self.old.reason }
+        ensures once { self.new.reason ≡ None }
+    {
         self.reason.take()
     }
 }

@@ -1,6 +1,7 @@
 //! Anything that the system writes to as a `Sink`: standard output, and standard error.
 
 ghost use Rattle.std.specs.Prelude.{◌≡◌, ◌<◌, length, None};
+ghost use Rattle.std.specs.Option.{option_map};
 ghost use Rattle.gl_base.specs.Faults.{Rose};
 ghost use Rattle.gl_base.specs.declared.sink.WriteAnswer.{WriteAnswer};
 ghost use Rattle.gl_base.specs.Sink.{HasWriteCause, SinkHealth, Writes, WritesWithin};
@@ -31,7 +32,9 @@ impl<W> Writing<W> {
     }
 
     /// Why the last write failed that did.
-    pub fn reason(&self) -> Option<&io::Error> {
+    pub fn reason(&self) -> Option<&io::Error>
+        ensures { option_map (λ reason. reason.now) result ≡ self.now.reason }
+    {
         self.reason.as_ref()
     }
 }
