@@ -1,7 +1,9 @@
+mod Around
 mod Causes
 mod Cuts
 pub mod Fitted
 pub mod Listings
+mod Hulls
 mod Logs
 mod Made
 pub mod Marks

@@ -1,5 +1,5 @@
 -- What a disk in memory holds after a crash (this profile).
-use Rattle.std.specs.Prelude.{ℕ, ◌-◌, ◌==◌, Bool, true, false, List, [], ◌∷◌, length, replicate, if◌then◌else◌}
+use Rattle.std.specs.Prelude.{ℕ, ◌+◌, ◌-◌, ◌==◌, Bool, true, false, List, [], ◌∷◌, ◌++◌, length, replicate, if◌then◌else◌}
 use Rattle.disk_base.specs.Story.{Moment, Story, with_part}
 use Rattle.disk_base.specs.declared.cut.CutChoice.{CutChoice}
 use Rattle.disk_base.specs.declared.cut.CutChoice.TheVariants.{Old, New, Fill, First}
@@ -8,6 +8,10 @@ use Rattle.disk_base.specs.declared.cut.CutChoice.TheVariants.{Old, New, Fill, F
 abbrev pub marks_of : ℕ → List (ℕ × ℕ) → List Bool
 marks_of size [] = replicate size false
 marks_of size (range ∷ loose) = with_part (marks_of size loose) range.0 (replicate range.1 true)
+
+-- the marks of all places, of which those from one on have these, and no other is marked
+abbrev pub marks_at : ℕ → ℕ → List Bool → List Bool
+marks_at size from marks = replicate from false ++ marks ++ replicate (size - (from + length marks)) false
 
 -- the bytes of the first moment that has no loose range, of this one and earlier ones
 abbrev pub settled_if : List (ℕ × ℕ) → List ℕ → List ℕ → List ℕ

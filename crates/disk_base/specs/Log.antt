@@ -1,5 +1,5 @@
 -- The log of a disk in memory, and what its calls come to (this profile).
-use Rattle.std.specs.Prelude.{◌≡◌, ℕ, ◌+◌, ◌≤◌, List, [], ◌∷◌, length, take, drop, fold}
+use Rattle.std.specs.Prelude.{◌≡◌, ℕ, ◌+◌, ◌≤◌, min, max, List, [], ◌∷◌, length, take, drop, fold}
 use Rattle.disk_base.specs.Story.{Story, settled_story, with_part}
 use Rattle.disk_base.specs.Calls.{DiskCall}
 use Rattle.disk_base.specs.Listed.{next_story}
@@ -41,6 +41,27 @@ AreLogged size (entry ∷ entries) written =
 abbrev pub AreSized : ℕ → List LoggedCall → Type 0
 AreSized size [] = Unit {0}
 AreSized size (entry ∷ entries) = (entry.at + entry.count ≤ size) × AreSized size entries
+
+-- what a call writes lies from a place on, and before another
+abbrev pub IsHeld : ℕ → ℕ → CallKind → ℕ → ℕ → Type 0
+IsHeld low high Write at count = (low ≤ at) × (at + count ≤ high)
+IsHeld low high Attach at count = Unit {0}
+IsHeld low high Read at count = Unit {0}
+IsHeld low high Sync at count = Unit {0}
+
+abbrev pub AreHeld : ℕ → ℕ → List LoggedCall → Type 0
+AreHeld low high [] = Unit {0}
+AreHeld low high (entry ∷ entries) = IsHeld low high entry.kind entry.at entry.count × AreHeld low high entries
+
+-- the lowest place and the end of a range and of what a call writes
+abbrev pub hull_under : CallKind → ℕ → ℕ → ℕ × ℕ → ℕ × ℕ
+hull_under Write at count hull = (min hull.0 at, max hull.1 (at + count))
+hull_under Attach at count hull = hull
+hull_under Read at count hull = hull
+hull_under Sync at count hull = hull
+
+abbrev pub hull_behind : ℕ × ℕ → LoggedCall → ℕ × ℕ
+hull_behind hull entry = hull_under entry.kind entry.at entry.count hull
 
 -- a write changes bytes, and no other call does
 abbrev pub bytes_under : CallKind → ℕ → List ℕ → List ℕ → List ℕ

@@ -3,7 +3,7 @@
 ghost use Rattle.std.specs.Prelude.{◌≡◌, ◌+◌, ◌^◌, ◌<◌, ◌≤◌, ◌&&◌, ◌||◌, nat_le, nat_lt, false};
 ghost use Rattle.std.specs.Prelude.{Option, Some, List, [], ◌∷◌, ◌++◌, length, replicate, refl, All, IfOk};
 ghost use Rattle.disk_base.specs.Calls.{DiskCall, Logs, attach_call, read_call, sync_call, write_call};
-ghost use Rattle.disk_base.specs.Cut.{image_of, marks_of, settled_bytes};
+ghost use Rattle.disk_base.specs.Cut.{image_of, marks_at, marks_of, settled_bytes};
 ghost use Rattle.disk_base.specs.Disk.{Attaches, HasSize, Reads, Syncs, TellsBytes, Writes};
 ghost use Rattle.disk_base.specs.Faults.{GoesAsListed, HasCause, IsLeftOut};
 ghost use Rattle.disk_base.specs.Images.{IsImage};
@@ -191,8 +191,8 @@ impl MemDisk {
         ensures image { IfOk result (λ disk. IsImage self.now.story.now disk.story.now.bytes) }
     {
         let settled = self.settled(alloc)?;
-        let marks = self.marks(alloc)?;
-        let image = left_bytes(alloc, choice, &marks, &settled, &self.bytes)?;
+        let (from, marks) = self.marks(alloc)?;
+        let image = left_bytes(alloc, choice, from, &marks, &settled, &self.bytes)?;
         let spare = (self.spare_calls, self.spare_bytes);
         MemDisk::over(alloc, image, self.most, self.room, spare)
     }
@@ -211,14 +211,18 @@ impl MemDisk {
         Ok(bytes)
     }
 
-    // A truth value for each place: whether it was written since.
-    fn marks(&self, alloc: Global) -> Result<Vec<bool>, NoMemory>
-        ensures marks { IfOk result (λ marks. marks.items ≡ marks_of (disk_size self.now) self.now.story.now.loose) }
-        ensures len { IfOk result (λ marks. length marks.items ≡ disk_size self.now) }
+    // The lowest place that was written since, and a truth value for each place from there up to the highest: whether it
+    // was written.
+    fn marks(&self, alloc: Global) -> Result<(usize, Vec<bool>), NoMemory>
+        ensures marks { IfOk result (λ marked. marks_at (disk_size self.now) marked.0 marked.1.items
+            ≡ marks_of (disk_size self.now) self.now.story.now.loose) }
+        ensures len { IfOk result (λ marked. marked.0 + length marked.1.items ≤ disk_size self.now) }
     {
-        let mut marks = vec![in alloc; false; self.bytes.len()]?;
-        mark_writes(marks.as_mut_slice(), &self.entries[self.synced..self.live]);
-        Ok(marks)
+        mark_writes(
+            alloc,
+            self.bytes.len(),
+            &self.entries[self.synced..self.live],
+        )
     }
 
     // Tells that its bytes are bytes, which the numbers of its view aren't by themselves.

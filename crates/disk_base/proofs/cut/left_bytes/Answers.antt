@@ -1,25 +1,29 @@
--- A page in which no place is marked keeps its bytes.
+-- What lies around the marked places stays as it is.
 
-use Rattle.std.proofs.Common.{◌≡◌, ◌+◌, ◌≤◌, ◌++◌, ◌∙◌, ℕ, List, true, false, length, drop, ap, arith, rules}
-use Rattle.std.specs.Bool.{beq}
-use Rattle.std.specs.List.{list_any, slice_range}
+use Rattle.std.proofs.Common.{◌≡◌, ℕ, ◌+◌, ◌-◌, ◌∙◌, ◌++◌, List, length, take, drop, ap, sym, arith, rules}
+use Rattle.std.specs.List.{slice_range}
+use Rattle.std.proofs.Math.Seq.{take-length}
+use Rattle.std.proofs.lemmas.List.{length-drop}
 use Rattle.disk_base.specs.Cut.{bytes_left}
-use Rattle.disk_base.proofs.Pages.{unmarked_part}
+use Rattle.disk_base.proofs.Around.{left_at}
 use Rattle.disk_base.proofs.cut.left_bytes.Goals as goal
 
-pub loop-place-preserved : goal.loop-place-preserved
-loop-place-preserved c =
-    let place = c.loop-place.place in
-    let end = place + c.min.result in
-    let within : end ≤ length c.args.now.now = search rules in
-    let image : c.extend_from_slice.new.self.items ≡ c.loop-place.image.items ++ slice_range c.args.now.now place end =
-    search rules in
-    let none : list_any (λ mark. beq mark true) (slice_range c.args.marks.now place end) ≡ false = search rules in (
-      within,
-      ap (λ (all : List ℕ). all
-          ++ bytes_left c.loop-place.choice (drop end c.args.marks.now) (drop end c.args.settled.now)
-          (drop end c.args.now.now)) image
-          ∙ unmarked_part place end c.loop-place.choice c.args.marks.now c.args.settled.now c.args.now.now
-          c.loop-place.image.items _ (omega arith) within c.requires.marks c.requires.settled none
-          c.loop-place.invariant.1,
-    )
+pub returns : goal.returns
+returns c =
+    let from = c.args.from in
+    let n = length c.args.marks.now in
+    let now = c.args.now.now in
+    let settled = c.args.settled.now in
+    let behind = drop (from + n) now in
+    let left = bytes_left c.args.choice c.args.marks.now (take n (drop from settled)) (take n (drop from now)) in
+    let long : (from + n) - from ≡ n = omega arith in
+    let before : c.extend_from_slice.new.self.items ≡ take from now = search rules in
+    let middle : c.leave_pages.new.image.items ≡ c.extend_from_slice.new.self.items ++ left = search (rules, long) in
+    let all : c.extend_from_slice-2.new.self.items
+    ≡ c.leave_pages.new.image.items ++ slice_range now (from + n) (length now) = search rules in
+    let rest : slice_range now (from + n) (length now) ≡ behind =
+    ap (λ (k : ℕ). take k behind) (sym (length-drop (from + n) now)) ∙ take-length behind in
+    all
+    ∙ ap (λ (bytes : List ℕ). c.leave_pages.new.image.items ++ bytes) rest
+    ∙ ap (λ (bytes : List ℕ). bytes ++ behind) (middle ∙ ap (λ (bytes : List ℕ). bytes ++ left) before)
+    ∙ sym (left_at from c.args.choice c.args.marks.now settled now c.requires.marks c.requires.settled)
