@@ -50,7 +50,7 @@ sizes_of (suc zero) used = used ∷ []
 sizes_of (suc (suc len)) used = 1 ∷ sizes_of (suc len) (used - 1)
 
 -- the file that a disk tells; where it tells none, one of so many messages and this mark, in which no slot is open, the
--- floor is the first number, and the first copy of each cell counts
+-- floor is the first number, the first copy of each cell counts, and no setup is kept
 abbrev pub file_told : Option Story → Known → SpoolFile
 file_told None known = record {
   version = known.version;
@@ -58,6 +58,7 @@ file_told None known = record {
   gates = replicate known.slots false;
   mark = record { value = known.mark; second = false };
   floor = record { value = known.first; second = false };
+  setup = record { cell = record { value = 0; second = false }; bytes = None };
   list = blanks known.first (sizes_of known.len (known.next - known.first));
 }
 file_told (Some s) known = file_in s.now.bytes

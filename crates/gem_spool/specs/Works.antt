@@ -96,6 +96,7 @@ file_after next file one = record {
   gates = gates_after next file one;
   mark = file.mark;
   floor = floor_after next file one;
+  setup = file.setup;
   list = list_after next file.list one;
 }
 

@@ -31,7 +31,7 @@ pub enum Unread {
     Empty,
     /// The disk failed.
     Failed,
-    /// It was read, and there is no memory for its body.
+    /// Some first slots of it were read, and there is no memory for its body.
     NoMemory,
 }
 

@@ -62,6 +62,20 @@ impl<D: Disk> GemSpool<D> {
         GemSpool { spool, active }
     }
 
+    /// Gives the spool up, for calls on its area, with whether it is active.
+    pub fn take_apart(self) -> (Spool<D>, bool)
+        ensures { result ≡ (self.spool, self.active) }
+    {
+        (self.spool, self.active)
+    }
+
+    /// Takes a spool up again, active or not.
+    pub fn join(spool: Spool<D>, active: bool) -> GemSpool<D>
+        ensures { result ≡ record { spool = spool; active = active } }
+    {
+        GemSpool { spool, active }
+    }
+
     /// Whether it is active.
     pub fn active(&self) -> bool
         ensures { result ≡ self.now.active }

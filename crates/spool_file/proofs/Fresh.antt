@@ -1,30 +1,31 @@
 -- What a new file stands for.
-use Rattle.std.proofs.Common.{◌≡◌, ◌⊎◌, inl, inr, ℕ, ◌+◌, ◌^◌, ◌<◌, ◌≤◌, ◌==◌, nat_lt, Bool, false, if◌then◌else◌, List}
+use Rattle.std.proofs.Common.{◌≡◌, ◌⊎◌, inl, inr, ℕ, ◌+◌, ◌^◌, ◌<◌, ◌≤◌, ◌==◌, nat_lt, Bool, true, false, if◌then◌else◌, List}
 use Rattle.std.proofs.Common.{[], ◌∷◌, ◌++◌, append_assoc, length, length-append, take, drop, get_or, replicate, Option, Some, None, Result}
 use Rattle.std.proofs.Common.{Ok, refl, sym, ap, subst, ◌∙◌, arith}
 use Rattle.std.proofs.lemmas.Bool.{cases_eq}
 use Rattle.std.proofs.lemmas.Bool.Decides.{nat_tests}
-use Rattle.std.proofs.lemmas.List.{drop-append-le, drop-drop, drop-take, drop_all, get_or-drop, length-replicate}
+use Rattle.std.proofs.lemmas.List.{drop-append-le, drop-drop, drop-take, drop_all, drop_at, get_or-drop, length-replicate}
 use Rattle.std.proofs.lemmas.List.{take-append-le, take-take, take_all}
 use Rattle.std.proofs.lemmas.Nat.{from_be_bytes-to_be_bytes_4}
 use Rattle.std.specs.Int.{w32, from_be_bytes, to_be_bytes}
 use Rattle.std.specs.Option.{option_map}
 use Rattle.std.specs.Result.{OnOk}
-use Rattle.disk_base.specs.Story.{Story, with_part, with_sync, with_write}
+use Rattle.disk_base.specs.Story.{Story, bytes_at, with_part, with_write}
 use Rattle.disk_base.proofs.Marks.{length-part}
 use Rattle.gate_cell.specs.Cell.{Cell, cell_in, cell_of, copy_of, names_second}
 use Rattle.spool_file.specs.Breaks.{list_below}
-use Rattle.spool_file.specs.File.{Ends, SpoolFile, StandsFor, floor_in, frame_in, gates_below, slots_in, version_in}
+use Rattle.spool_file.specs.File.{SpoolFile, StandsFor, floor_in, frame_in, gates_below, slots_in, version_in}
 use Rattle.spool_file.specs.Format.{ClosesTo, IsClosedTo, empty_file, first_page, new_magic}
 use Rattle.spool_file.specs.Front.{floor_cell, front_break, front_in, front_size, magic, magic_break, mark_cell}
 use Rattle.spool_file.specs.Front.{magic_of, slots_of, unlike_at, version_of}
+use Rattle.spool_file.specs.Setup.{Setup, area_end, area_in, area_of, area_size, has_area, setup_cell, setup_in, setup_of}
 use Rattle.spool_file.specs.Slot.{Message, is_open, slot_in, slot_place, stands_on}
 use Rattle.spool_file.specs.declared.slot.Frame.{Frame}
 use Rattle.spool_file.proofs.Fronts.{front_cell, made_frame, of_front, unlike_front}
 use Rattle.spool_file.proofs.Gates.{closed_absent, shut_gates}
 use Rattle.spool_file.proofs.Sound.{none_held}
 use Rattle.spool_file.proofs.Wholes.{full_in, none_break, spool_sound}
-use Rattle.spool_file.proofs.Written.{bytes_inside, front_beside, gate_written, others_stay}
+use Rattle.spool_file.proofs.Written.{bytes_beside, front_beside, gate_written, others_stay}
 
 -- what stands in the first page behind the number of slots
 abbrev early : List ℕ
@@ -112,6 +113,16 @@ module _ (slots : ℕ) where
   zero_floor = ap (λ (xs : List ℕ). cell_of (take 17 xs))
       (sym (drop-drop 17 12 front) ∙ ap (λ (xs : List ℕ). drop 17 xs) cells)
 
+  pub zero_setup : cell_in (first_page slots) setup_cell ≡ record { value = 0; second = false }
+  unfolding copy_of
+  zero_setup =
+      let first : length early ≡ 34 = length-replicate {A = ℕ} 34 0 in
+      let one : length named ≡ 1 = refl in
+      ap (λ (xs : List ℕ). cell_of (bytes_at xs 47 17)) page_parts
+      ∙ ap (λ (xs : List ℕ). cell_of (take 17 xs))
+      (drop_at (head ++ early ++ named) late 47
+      (omega (arith, head_long, length-append (head ++ early) named, length-append head early, first, one)))
+
   pub front_none : (size : ℕ) → 1 ≤ slots → slots ≤ 65535 → slot_place slots ≤ size → front_break front size ≡ None
   front_none size some most fits = of_front front size (record {
     name = magic_none;
@@ -127,16 +138,24 @@ module _ (slots : ℕ) where
       slots_none n is = grind (arith, nat_tests, is, some, most, fits)
 
 -- a file of these parts
-abbrev pub made_file : (version slots : ℕ) → List Bool → (mark floor : Cell) → List Message → SpoolFile
-made_file version slots gates mark floor list =
-    record { version = version; slots = slots; gates = gates; mark = mark; floor = floor; list = list }
+abbrev pub made_file : Setup → (version slots : ℕ) → List Bool → (mark floor : Cell) → List Message → SpoolFile
+made_file setup version slots gates mark floor list = record {
+  version = version;
+  slots = slots;
+  gates = gates;
+  mark = mark;
+  floor = floor;
+  setup = setup;
+  list = list;
+}
 
 -- an empty file
 pub empty_stands : (bytes : List ℕ) (slots : ℕ) → front_in bytes ≡ take 47 (first_page slots) → 1 ≤ slots →
     slots ≤ 65535 →
-    slot_place slots ≤ length bytes → ((k : ℕ) → k < slots → is_open (slot_in bytes k) ≡ false) →
-    StandsFor bytes (empty_file slots)
-empty_stands bytes slots is some most fits closed =
+    area_end slots ≤ length bytes → ((k : ℕ) → k < slots → is_open (slot_in bytes k) ≡ false) →
+    cell_in bytes setup_cell ≡ record { value = 0; second = false } → StandsFor bytes (empty_file slots)
+empty_stands bytes slots is some most room closed cell =
+    let fits : slot_place slots ≤ length bytes = omega (arith, room) in
     let front : front_in bytes ≡ take 47 ((new_magic ++ to_be_bytes w32 slots) ++ rest) =
     is ∙ ap (λ (xs : List ℕ). take 47 xs) (page_is slots) in
     let version : version_in bytes ≡ 2 = ap version_of front ∙ version_is slots in
@@ -151,6 +170,13 @@ empty_stands bytes slots is some most fits closed =
     ∙ zero_mark slots in
     let floor = front_cell floor_cell front_size bytes (omega arith) ∙ ap (λ (f : List ℕ). cell_in f floor_cell) front
     ∙ zero_floor slots in
+    let setup = setup_in bytes in
+    let has : has_area slots (length bytes) ≡ true = grind (arith, nat_tests, room) in
+    let setup_is : setup ≡ setup_of zeroed (Some (bytes_at bytes (slot_place slots) area_size)) =
+    ap (λ (c : Cell). setup_of c (area_in bytes)) cell
+    ∙ ap (λ (n : ℕ). setup_of zeroed (area_of n bytes)) count
+    ∙ ap (λ (b : Bool). setup_of zeroed (if b then Some (bytes_at bytes (slot_place slots) area_size) else None))
+    has in
     let frame_is : frame_in bytes ≡ frame =
     ap (λ (v : ℕ). made_frame v (slots_in bytes) (floor_in bytes)) version
     ∙ ap (λ (n : ℕ). made_frame 2 n (floor_in bytes)) count ∙ ap (λ (c : Cell). made_frame 2 slots c.value) floor in
@@ -159,16 +185,17 @@ empty_stands bytes slots is some most fits closed =
           (ap (λ (f : List ℕ). front_break f (length bytes)) front ∙ front_none slots (length bytes) some most fits)
           (sym frame_is) (none_break frame slot (inr refl) (full_in bytes slots fits) some absent);
       is = sym (
-          ap (λ (v : ℕ). made_file v (slots_in bytes) (gates_below slot (slots_in bytes)) m f
+          ap (λ (v : ℕ). made_file setup v (slots_in bytes) (gates_below slot (slots_in bytes)) m f
           (list_below (frame_in bytes) slot (slots_in bytes))) version
-          ∙ ap (λ (n : ℕ). made_file 2 n (gates_below slot n) m f (list_below (frame_in bytes) slot n)) count
-          ∙ ap (λ (gates : List Bool). made_file 2 slots gates m f (list_below (frame_in bytes) slot slots))
+          ∙ ap (λ (n : ℕ). made_file setup 2 n (gates_below slot n) m f (list_below (frame_in bytes) slot n)) count
+          ∙ ap (λ (gates : List Bool). made_file setup 2 slots gates m f (list_below (frame_in bytes) slot slots))
           (shut_gates slot slots closed)
-          ∙ ap (λ (fr : Frame). made_file 2 slots (replicate slots false) m f (list_below fr slot slots)) frame_is
-          ∙ ap (λ (list : List Message). made_file 2 slots (replicate slots false) m f list)
+          ∙ ap (λ (fr : Frame). made_file setup 2 slots (replicate slots false) m f (list_below fr slot slots)) frame_is
+          ∙ ap (λ (list : List Message). made_file setup 2 slots (replicate slots false) m f list)
           (none_held frame slot absent)
-          ∙ ap (λ (c : Cell). made_file 2 slots (replicate slots false) c f []) mark
-          ∙ ap (λ (c : Cell). made_file 2 slots (replicate slots false) zeroed c []) floor);
+          ∙ ap (λ (c : Cell). made_file setup 2 slots (replicate slots false) c f []) mark
+          ∙ ap (λ (c : Cell). made_file setup 2 slots (replicate slots false) zeroed c []) floor
+          ∙ ap (λ (u : Setup). made_file u 2 slots (replicate slots false) zeroed zeroed []) setup_is);
     } where
       zeroed : Cell
       zeroed = record { value = 0; second = false }
@@ -206,13 +233,15 @@ module _ (s t : Story) (k slots : ℕ) (is : IsClosedTo s t k) (below : k < slot
 
   pub one_closed : IsClosedTo s (with_write (slot_place k) (0 ∷ []) t) (k + 1)
   one_closed = record {
+    cell = ap cell_of (bytes_beside t.now.bytes (0 ∷ []) (slot_place k) (omega (arith, within)) setup_cell 17
+        (inl (omega arith))) ∙ is.cell;
     long = length-part t.now.bytes (0 ∷ []) (slot_place k) (omega (arith, within)) ∙ is.long;
     front = front_beside t.now.bytes (0 ∷ []) (slot_place k) (omega (arith, within)) (omega arith) ∙ is.front;
     closed = λ j less. shut j less (cases_eq j k);
   }
 
 pub none_closed : (s : Story) → IsClosedTo s s 0
-none_closed s = record { long = refl; front = refl; closed = λ k below. absurd (omega (arith, below)) }
+none_closed s = record { long = refl; front = refl; cell = refl; closed = λ k below. absurd (omega (arith, below)) }
 
 pub closes_more : (o p q : Option Story) (k slots size : ℕ) → ((s : Story) → o ≡ Some s → length s.now.bytes ≡ size) →
     k < slots → slot_place slots ≤ size →
@@ -225,27 +254,3 @@ closes_more o p q k slots size sized below fits so_far is t told =
       subst (λ (u : Story). IsClosedTo first.0 u (k + 1)) (sym before.2)
           (one_closed first.0 before.0 k slots first.2 below (omega (arith, fits, sized first.0 first.1))),
     )
-
--- the page, the closed slots and the sync
-pub stands_empty : (o p q r : Option Story) (slots size : ℕ) → ((s : Story) → o ≡ Some s → length s.now.bytes ≡ size) →
-    1 ≤ slots → slots ≤ 65535 →
-    slot_place slots ≤ size → p ≡ option_map (with_write 0 (first_page slots)) o → ClosesTo p q slots →
-    r ≡ option_map with_sync q →
-    (t : Story) → r ≡ Some t → Ends t (empty_file slots)
-stands_empty o p q r slots size sized some most fits page closes synced t told =
-    let u = back q r with_sync t synced told in
-    let v = closes u.0 u.1 in
-    let s = back o p (with_write 0 (first_page slots)) v.0 page v.1 in
-    let long : length s.0.now.bytes ≡ size = sized s.0 s.1 in
-    let inside : 0 + length (first_page slots) ≤ length s.0.now.bytes =
-    omega (arith, long, fits, some, page_long slots) in
-    let front : front_in v.0.now.bytes ≡ take 47 (first_page slots) =
-    ap (λ (w : Story). front_in w.now.bytes) s.2
-    ∙ bytes_inside s.0.now.bytes (first_page slots) 0 inside 0 47 (omega (arith, page_long slots)) in
-    let length_v : length v.0.now.bytes ≡ size = ap (λ (w : Story). length w.now.bytes) s.2
-    ∙ length-part s.0.now.bytes (first_page slots) 0 inside ∙ long in
-    subst (λ (w : Story). Ends w (empty_file slots)) (sym u.2) (record {
-      settled = refl;
-      stands = empty_stands u.0.now.bytes slots (v.2.front ∙ front) some most (omega (arith, fits, length_v, v.2.long))
-          v.2.closed;
-    })

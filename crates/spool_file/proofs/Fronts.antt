@@ -33,16 +33,17 @@ copy_in_cell at front true =
     ∙ take-take 8 9 (drop 8 (drop at front)) (omega arith)
     ∙ ap (λ (xs : List ℕ). take 8 xs) (drop-drop 8 at front))
 
--- a cell lies in the first bytes of a file
-cell_taken : (at n : ℕ) (bytes : List ℕ) → at + 17 ≤ n → bytes_at (take n bytes) at 17 ≡ bytes_at bytes at 17
-cell_taken at n bytes within =
+-- bytes that lie among the first ones of a file, as a cell does
+pub bytes_taken : (at size n : ℕ) (bytes : List ℕ) → at + size ≤ n →
+    bytes_at (take n bytes) at size ≡ bytes_at bytes at size
+bytes_taken at size n bytes within =
     let rest : n ≡ at + (n - at) = omega (arith, within) in
-    ap (λ (m : ℕ). bytes_at (take m bytes) at 17) rest
-    ∙ ap (λ (xs : List ℕ). take 17 xs) (drop-take at (n - at) bytes)
-    ∙ take-take 17 (n - at) (drop at bytes) (omega (arith, within))
+    ap (λ (m : ℕ). bytes_at (take m bytes) at size) rest
+    ∙ ap (λ (xs : List ℕ). take size xs) (drop-take at (n - at) bytes)
+    ∙ take-take size (n - at) (drop at bytes) (omega (arith, within))
 
 pub front_cell : (at n : ℕ) (bytes : List ℕ) → at + 17 ≤ n → cell_in bytes at ≡ cell_in (take n bytes) at
-front_cell at n bytes within = ap cell_of (sym (cell_taken at n bytes within))
+front_cell at n bytes within = ap cell_of (sym (bytes_taken at 17 n bytes within))
 
 -- so mark and floor are the values of their cells
 pub mark_is : (bytes : List ℕ) → (cell_in bytes mark_cell).value ≡ mark_of (front_in bytes)

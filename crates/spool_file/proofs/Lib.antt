@@ -3,6 +3,7 @@ pub mod Areas
 pub mod BodySizes
 pub mod Bounds
 pub mod Chains
+pub mod Cleared
 pub mod Contents
 pub mod Evens
 pub mod FileLooks
@@ -12,10 +13,12 @@ pub mod Fronts
 pub mod Gapless
 pub mod Gates
 pub mod Lists
+pub mod Made
 pub mod Making
 pub mod Others
 pub mod Runs
 pub mod Scans
+pub mod Setups
 pub mod Sound
 pub mod Starts
 pub mod Stretches

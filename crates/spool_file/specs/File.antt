@@ -5,6 +5,7 @@ use Rattle.gate_cell.specs.Cell.{Cell, cell_in}
 use Rattle.spool_file.specs.Area.{or_else}
 use Rattle.spool_file.specs.Breaks.{area_break, list_below}
 use Rattle.spool_file.specs.Front.{floor_cell, front_break, front_in, mark_cell, slots_of, version_of}
+use Rattle.spool_file.specs.Setup.{Setup, setup_in}
 use Rattle.spool_file.specs.Slot.{Message, Slot, is_open, slot_in}
 use Rattle.spool_file.specs.declared.slot.Frame.{Frame}
 
@@ -30,14 +31,15 @@ abbrev pub gates_below : (ℕ → Slot) → ℕ → List Bool
 gates_below slot zero = []
 gates_below slot (suc k) = gates_below slot k ++ is_open (slot k) ∷ []
 
--- the version, how many slots there are, which of them are open, mark and floor with the copies that have them, and the
--- messages by number
+-- the version, how many slots there are, which of them are open, mark and floor with the copies that have them, the
+-- setup, and the messages by number
 pub record SpoolFile : Type 0 where
   pub version : ℕ
   pub slots : ℕ
   pub gates : List Bool
   pub mark : Cell
   pub floor : Cell
+  pub setup : Setup
   pub list : List Message
 
 -- what bytes stand for if they stand for anything
@@ -48,6 +50,7 @@ file_in bytes = record {
   gates = gates_below (slot_in bytes) (slots_in bytes);
   mark = cell_in bytes mark_cell;
   floor = cell_in bytes floor_cell;
+  setup = setup_in bytes;
   list = list_below (frame_in bytes) (slot_in bytes) (slots_in bytes);
 }
 

@@ -9,6 +9,7 @@ pub mod Logs
 pub mod Reading
 pub mod Reads
 pub mod Run
+pub mod Setup
 pub mod Sizes
 pub mod Slot
 pub mod Worked

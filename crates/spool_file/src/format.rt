@@ -1,12 +1,14 @@
-//! A new file: its first page, and its slots, all closed.
+//! A new file: its first page, its slots, all closed, and its area of zeros.
 
 ghost use Rattle.std.specs.Prelude.{◌≡◌, ◌+◌, ◌<◌, ◌≤◌, None};
 ghost use Rattle.disk_base.specs.Faults.{HasCause};
 ghost use Rattle.disk_base.specs.SameDisk.{IsSameDisk};
 ghost use Rattle.spool_file.specs.Added.{OnlyAdds, WritesOrSyncs};
 ghost use Rattle.spool_file.specs.Format.{ClosesSlots, StandsEmpty, first_page as page_of};
+ghost use Rattle.spool_file.specs.Setup.{area_end};
 ghost use Rattle.spool_file.specs.Slot.{slot_place as place_of};
 
+use crate::setup::clear_area;
 use crate::slot::{CLOSED, SLOT_SIZE};
 use crate::slots::slot_place;
 use arrayvec::ArrayVec;
@@ -53,15 +55,15 @@ pub fn close_slots<D: Disk>(disk: &mut D, slots: u32) -> DiskAnswer
     DiskAnswer::Done
 }
 
-/// Writes the first page, closes the slots, and syncs.
+/// Writes the first page, closes the slots, fills the area with zeros, and syncs.
 pub fn write_empty<D: Disk>(disk: &mut D, slots: u32) -> DiskAnswer
-    requires size { place_of slots ≤ D.size_is disk.old }
+    requires size { area_end slots ≤ D.size_is disk.old }
     requires some { 1 ≤ slots }
     requires most { slots ≤ 65535 }
     ensures told { StandsEmpty (D.told disk.new) slots result }
     ensures size { D.size_is disk.new ≡ D.size_is disk.old }
-    ensures cause { HasCause (D.health disk.old) (D.health disk.new) (slots + 2) (slots + 4096)
-        ((D.health disk.old).room < slots + 4096) result }
+    ensures cause { HasCause (D.health disk.old) (D.health disk.new) (slots + 34) (slots + 528384)
+        ((D.health disk.old).room < slots + 528384) result }
     ensures calls { OnlyAdds WritesOrSyncs (D.calls disk.old) (D.calls disk.new) }
     ensures same_disk { IsSameDisk D.Disk disk.old disk.new }
 {
@@ -70,6 +72,10 @@ pub fn write_empty<D: Disk>(disk: &mut D, slots: u32) -> DiskAnswer
         DiskAnswer::Failed => return DiskAnswer::Failed,
     }
     match close_slots(disk, slots) {
+        DiskAnswer::Done => {}
+        DiskAnswer::Failed => return DiskAnswer::Failed,
+    }
+    match clear_area(disk, slots) {
         DiskAnswer::Done => {}
         DiskAnswer::Failed => return DiskAnswer::Failed,
     }

@@ -9,6 +9,7 @@ mod Found
 mod GatesLeft
 mod Going
 mod Joined
+pub mod Kept
 mod Lasting
 mod Looking
 pub mod Lost
@@ -21,6 +22,7 @@ mod Parts
 mod Putting
 mod Rows
 pub mod Settling
+mod Setups
 mod Shuts
 mod StagedPuts
 mod Upgrading

@@ -28,7 +28,7 @@ use Rattle.spool_file.proofs.Runs.{IsBetween, chain_total, chain_within, total}
 use Rattle.spool_file.proofs.Wholes.{sound_kept}
 use Rattle.spool_slots.specs.Calls.{number_place}
 use Rattle.spool_slots.specs.Carried.{CarriesOut}
-use Rattle.spool_slots.specs.Changes.{HasHead, HasLooked, HasMade, HasSlot, IsListed, LooksOn}
+use Rattle.spool_slots.specs.Changes.{HasHead, HasLooked, HasMade, HasSeen, HasSlot, IsListed, LooksOn}
 use Rattle.spool_slots.specs.Spool.{IsSpool, Rests, in_hand}
 use Rattle.spool_slots.proofs.Lasting.{first_there, place_below, some_slots}
 
@@ -105,17 +105,25 @@ noted gates place gate f within is before p below = by_place (cases_eq p place) 
   by_place (inr other) =
       get_or-set_other gates place p gate 0 other ∙ before p (grind (arith, below, other))
 
+-- the bytes at a place
+module _ {D : Type 0} (members : disk.Ghosts D) (d d' : D) (k : Known) where
+  pub seen : (at place long n : ℕ) (answer : DiskAnswer) → at ≡ place → long ≡ n →
+      members.told d' ≡ members.told d → CarriesOut members d d' (read_call at long Done ∷ []) answer →
+      HasSeen members (in_hand d k) (in_hand d' k) place n answer
+  seen at place long n answer here size told row = record {
+    same = refl;
+    told = told;
+    made = subst (λ (p : ℕ). HasMade members d d' (read_call p n Done ∷ []) answer) here
+        (subst (λ (m : ℕ). HasMade members d d' (read_call at m Done ∷ []) answer) size row.made);
+  }
+
 -- the slot of a number
 module _ {D : Type 0} (members : disk.Ghosts D) (d d' : D) (k : Known) (number : ℕ) where
   pub looked : (at long : ℕ) (answer : DiskAnswer) → at ≡ number_place k.slots number → long ≡ 4096 →
       members.told d' ≡ members.told d → CarriesOut members d d' (read_call at long Done ∷ []) answer →
       HasLooked members (in_hand d k) (in_hand d' k) (number % k.slots) answer
-  looked at long answer here size told row = record {
-    same = refl;
-    told = told;
-    made = subst (λ (p : ℕ). HasMade members d d' (read_call p 4096 Done ∷ []) answer) here
-        (subst (λ (n : ℕ). HasMade members d d' (read_call at n Done ∷ []) answer) size row.made);
-  }
+  looked at long answer here size told row =
+      seen members d d' k at (number_place k.slots number) long 4096 answer here size told row
 
   pub slot_read : (at : ℕ) (into : List ℕ) → at ≡ number_place k.slots number → length into ≡ 4096 →
       ((s : Story) → members.told d ≡ Some s → into ≡ bytes_at s.now.bytes at (length into)) →

@@ -12,6 +12,7 @@ use Rattle.spool_file.specs.Breaks.{list_below, slot_stands}
 use Rattle.spool_file.specs.File.{StandsFor, file_in, frame_in, gates_below, slots_in, spool_break, version_in}
 use Rattle.spool_file.specs.Front.{floor_cell, front_break, front_in, front_size, mark_cell, slots_of, version_of}
 use Rattle.spool_file.specs.Run.{IsChainFrom}
+use Rattle.spool_file.specs.Setup.{Setup, setup_in}
 use Rattle.spool_file.specs.Sizes.{slots_for}
 use Rattle.spool_file.specs.Slot.{Message, Slot, head_break, is_open, slot_break, slot_in, slot_message, slot_place}
 use Rattle.spool_file.specs.Slot.{stands_on, width}
@@ -22,10 +23,11 @@ use Rattle.spool_file.proofs.Fronts.{front_cell, made_frame, version_either}
 use Rattle.spool_file.proofs.Gates.{closed_absent, one_gate, same_gates}
 use Rattle.spool_file.proofs.Others.{IsOfRow, list_stays, message_same, whole_stays}
 use Rattle.spool_file.proofs.Runs.{IsKept, chain_up}
+use Rattle.spool_file.proofs.Setups.{setup_beside}
 use Rattle.spool_file.proofs.Sound.{IsFull, IsWhole, absent_none, good_is, good_none, width_is}
 use Rattle.spool_file.proofs.Wholes.{full_in, kept_area, sound_front, sound_kept, sound_slots, spool_sound}
 use Rattle.spool_file.proofs.Written.{front_beside, gate_written, others_stay}
-use Rattle.spool_slots.specs.Files.{dropped_in, sealed_in, with_gates}
+use Rattle.spool_slots.specs.Files.{dropped_in, sealed_in, with_gates, with_setup}
 use Rattle.spool_slots.proofs.Changes.{closes, closes_kept, opens, opens_kept, same_kept, same_list}
 
 -- the same front has the same cells
@@ -81,12 +83,13 @@ module _ (bytes : List ℕ) (frame : Frame) (frame_is : frame ≡ frame_in bytes
       }
 
   -- bytes with the same front whose slots hold a chain
-  pub stands_now : (image : List ℕ) (first' next' : ℕ) (gates : List Bool) (list : List Message) →
-      front_in image ≡ front_in bytes → length image ≡ length bytes → IsWhole frame (slot_in image) first' next' →
+  pub stands_now : (image : List ℕ) (first' next' : ℕ) (gates : List Bool) (setup : Setup) (list : List Message) →
+      front_in image ≡ front_in bytes → length image ≡ length bytes → setup_in image ≡ setup →
+      IsWhole frame (slot_in image) first' next' →
       gates_below (slot_in image) slots ≡ gates → list_below frame (slot_in image) slots ≡ list →
-      StandsFor image (made_file (version_in bytes) (slots_in bytes) gates (cell_in bytes mark_cell)
+      StandsFor image (made_file setup (version_in bytes) (slots_in bytes) gates (cell_in bytes mark_cell)
       (cell_in bytes floor_cell) list)
-  stands_now image first' next' gates list same long is gates_are list_is =
+  stands_now image first' next' gates setup list same long setup_is is gates_are list_is =
       let floor = same_cell bytes image floor_cell (omega arith) same in
       let frame_now : frame ≡ frame_in image =
       frame_is
@@ -101,29 +104,45 @@ module _ (bytes : List ℕ) (frame : Frame) (frame_is : frame ≡ frame_in bytes
             ∙ ap (λ (n : ℕ). front_break (front_in bytes) n) long ∙ sound_front bytes sound) frame_now
             (kept_area frame (slot_in image) version (full_in image slots inside_now) some first' next' is);
         is =
-            ap (λ (f : List ℕ). made_file (version_of f) (slots_of f) gates here there list) (sym same)
-            ∙ ap (λ (g : List Bool). made_file (version_in image) (slots_in image) g here there list)
+            ap (λ (u : Setup). made_file u (version_in bytes) (slots_in bytes) gates here there list) (sym setup_is)
+            ∙ ap (λ (f : List ℕ). made_file (setup_in image) (version_of f) (slots_of f) gates here there list) (sym same)
+            ∙ ap (λ (g : List Bool). made_file (setup_in image) (version_in image) (slots_in image) g here there list)
             (sym gates_are ∙ ap (λ (f : Frame). gates_below (slot_in image) f.slots) frame_now)
-            ∙ ap (λ (c : Cell). made_file (version_in image) (slots_in image) (file_in image).gates c there list)
+            ∙ ap (λ (c : Cell). made_file (setup_in image) (version_in image) (slots_in image) (file_in image).gates c there list)
             (sym (same_cell bytes image mark_cell (omega arith) same))
-            ∙ ap (λ (c : Cell). made_file (version_in image) (slots_in image) (file_in image).gates
+            ∙ ap (λ (c : Cell). made_file (setup_in image) (version_in image) (slots_in image) (file_in image).gates
             (cell_in image mark_cell) c list) (sym floor)
-            ∙ ap (λ (l : List Message). made_file (version_in image) (slots_in image) (file_in image).gates
+            ∙ ap (λ (l : List Message). made_file (setup_in image) (version_in image) (slots_in image) (file_in image).gates
             (cell_in image mark_cell) (cell_in image floor_cell) l)
             (sym list_is ∙ ap (λ (f : Frame). list_below f (slot_in image) f.slots) frame_now);
       }
+
+  -- the same slots, and another setup
+  pub setup_stands : (image : List ℕ) (setup : Setup) → front_in image ≡ front_in bytes → length image ≡ length bytes →
+      setup_in image ≡ setup → ((k : ℕ) → k < slots → slot_in image k ≡ old k) →
+      StandsFor image (with_setup setup (file_in bytes))
+  setup_stands image setup same long is slots_same =
+      stands_now image first next (file_in bytes).gates setup (file_in bytes).list same long is
+      (whole_stays frame old (slot_in image) first next 0 some full whole (omega (arith, room)) from
+      (λ k below none. slots_same k below) (λ k below row. absurd (omega (arith, row.1)))
+      (λ k below row. absurd (omega (arith, row.1))))
+      (same_gates old (slot_in image) slots (λ k below. ap is_open (slots_same k below)) ∙ sym gated)
+      (list_stays frame old (slot_in image) first next 0 some full whole (omega (arith, room)) from
+      (λ k below none. slots_same k below) (λ k below row. absurd (omega (arith, row.1)))
+      (λ k below row. absurd (omega (arith, row.1))) ∙ sym listed)
 
   -- ---- the slots of a put
 
   -- slots of numbers behind all messages may have changed, as long as none of them stands, before or now
   pub row_stands : (image : List ℕ) (n : ℕ) → front_in image ≡ front_in bytes → length image ≡ length bytes →
+      setup_in image ≡ setup_in bytes →
       next + n ≤ first + slots →
       ((k : ℕ) → k < slots → (IsOfRow slots next n k → ⊥) → slot_in image k ≡ old k) →
       ((k : ℕ) → k < slots → IsOfRow slots next n k → stands_on frame.floor (old k) ≡ false) →
       ((k : ℕ) → k < slots → IsOfRow slots next n k → stands_on frame.floor (slot_in image k) ≡ false) →
       StandsFor image (with_gates (gates_below (slot_in image) slots) (file_in bytes))
-  row_stands image n same long fits others before now =
-      stands_now image first next (gates_below (slot_in image) slots) (file_in bytes).list same long
+  row_stands image n same long setup_is fits others before now =
+      stands_now image first next (gates_below (slot_in image) slots) (setup_in bytes) (file_in bytes).list same long setup_is
       (whole_stays frame old (slot_in image) first next n some full whole fits from others before now) refl
       (list_stays frame old (slot_in image) first next n some full whole fits from others before now ∙ sym listed)
 
@@ -200,12 +219,14 @@ module _ (bytes : List ℕ) (frame : Frame) (frame_is : frame ≡ frame_in bytes
         IsKept (slot_stands frame.floor (slot_in now)) (slot_message slots (slot_in now)) slots first' next' →
         next' ≤ first' + slots → gates_below (slot_in now) slots ≡ gates →
         list_below frame (slot_in now) slots ≡ list →
-        StandsFor now (made_file (version_in bytes) (slots_in bytes) gates (cell_in bytes mark_cell)
+        StandsFor now (made_file (setup_in bytes) (version_in bytes) (slots_in bytes) gates (cell_in bytes mark_cell)
         (cell_in bytes floor_cell) list)
     stands_with good first' next' gates list kept fits gates_are list_is =
-        stands_now now first' next' gates list
+        stands_now now first' next' gates (setup_in bytes) list
         (front_beside bytes (gate ∷ []) (slot_place j) within (omega arith))
         (length-part bytes (gate ∷ []) (slot_place j) within)
+        (setup_beside bytes (gate ∷ []) (slot_place j) within (omega (arith, below, slots_are))
+        (ap slots_of (front_beside bytes (gate ∷ []) (slot_place j) within (omega arith))) (inr (omega arith)))
         (record { fields = λ k less. field_by good k (cases_eq k j) less; kept = kept; room = fits }) gates_are list_is
 
     absent_now : (gate == 90) ≡ false → stands_on frame.floor (slot_in now j) ≡ false
@@ -301,7 +322,7 @@ module _ (bytes : List ℕ) (frame : Frame) (frame_is : frame ≡ frame_in bytes
           ap width (messages j) ∙ wide in
           let number_in : slot_message slots old j ≡ slot_message (slots_in bytes) old j =
           ap (λ (n : ℕ). slot_message n old j) slots_are in
-          subst (λ (m : Message). StandsFor now (made_file (version_in bytes) (slots_in bytes)
+          subst (λ (m : Message). StandsFor now (made_file (setup_in bytes) (version_in bytes) (slots_in bytes)
           (set (file_in bytes).gates (m.number % slots_in bytes) true) (cell_in bytes mark_cell)
           (cell_in bytes floor_cell) ((file_in bytes).list ++ m ∷ []))) number_in
           (stands_with good_now first (next + width (slot_message slots (slot_in now) j))

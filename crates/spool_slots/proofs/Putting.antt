@@ -1,19 +1,24 @@
 -- That the list stands while a message is written into slots of which none stands.
 use Rattle.std.proofs.Common.{◌≡◌, ◌⊎◌, ℕ, zero, suc, ◌+◌, ◌%◌, ◌<◌, ◌≤◌, ◌&&◌, nat_le, min, Bool, true, false}
-use Rattle.std.proofs.Common.{List, length, drop, get_or, slice_index, refl, sym, ap, ◌∙◌, arith, inl}
+use Rattle.std.proofs.Common.{List, length, drop, get_or, slice_index, refl, sym, ap, subst, ◌∙◌, arith, inl}
 use Rattle.std.proofs.Common.{inr, length-drop}
 use Rattle.std.proofs.lemmas.Bool.{cases_eq, cases_lt}
 use Rattle.std.proofs.lemmas.List.{ext_get_or, length-take}
+use Rattle.std.proofs.lemmas.Nat.{mod_below}
 use Rattle.disk_base.specs.Story.{Story, bytes_at}
+use Rattle.gate_cell.specs.Cell.{cell_of}
 use Rattle.spool_file.specs.Breaks.{slot_stands}
-use Rattle.spool_file.specs.File.{StandsFor, file_in, floor_in, gates_below}
-use Rattle.spool_file.specs.Front.{front_in, front_size}
+use Rattle.spool_file.specs.File.{StandsFor, file_in, floor_in, gates_below, slots_in}
+use Rattle.spool_file.specs.Front.{front_in, front_size, slots_of}
+use Rattle.spool_file.specs.Setup.{area_size, setup_cell, setup_in}
 use Rattle.spool_file.specs.Slot.{Slot, head_of, is_open, slot_in, slot_message, slot_place, stands_on}
 use Rattle.spool_file.specs.declared.recovery.Known.{Known}
 use Rattle.spool_file.specs.declared.slot.SlotHead.{SlotHead}
 use Rattle.spool_file.proofs.Gates.{closed_absent}
 use Rattle.spool_file.proofs.Others.{IsOfRow}
 use Rattle.spool_file.proofs.Runs.{free}
+use Rattle.spool_file.proofs.Setups.{setup_same}
+use Rattle.spool_file.proofs.Wholes.{sound_slots}
 use Rattle.spool_file.proofs.Written.{at-taken}
 use Rattle.spool_slots.specs.Calls.{number_place}
 use Rattle.spool_slots.specs.Files.{with_gates}
@@ -112,6 +117,17 @@ module _ (s : Story) (k : Known) (is : Rests s k) (room : k.next ≤ k.first + k
     front_same = bytes_same image bytes 0 front_size put.long (λ place from below.
         beside_row place (λ p less start end. omega (arith, start, below)))
 
+    -- nor is the cell of the setup one of them, or the area
+    setup_still : setup_in image ≡ setup_in bytes
+    setup_still =
+        let some : 1 ≤ k.slots = subst (λ n. 1 ≤ n) (sym is.slots_are) (sound_slots bytes is.sound).some in
+        setup_same bytes image (ap slots_of front_same) put.long
+        (bytes_same image bytes (slot_place (slots_in bytes)) area_size put.long (λ place from below.
+        beside_row place (λ p less start end.
+        omega (arith, from, end, is.slots_are, mod_below (k.next + p) k.slots (omega (arith, some))))))
+        (ap cell_of (bytes_same image bytes setup_cell 17 put.long (λ place from below.
+        beside_row place (λ p less start end. omega (arith, start, below)))))
+
     pub others_same : (j : ℕ) → j < k.slots → (Row j → ⊥) → slot_in image j ≡ slot_in bytes j
     others_same j below none = slot_same image bytes j put.long (λ place from to.
         beside_row place (λ p less start end.
@@ -175,4 +191,4 @@ module _ (s : Story) (k : Known) (is : Rests s k) (room : k.next ≤ k.first + k
     pub putting_stands : StandsFor image (with_gates (gates_below (slot_in image) k.slots) (file_in bytes))
     putting_stands =
         row_stands bytes (frame s k is room) (frame_is s k is room) k.first k.next is.sound is.low is.chain room image n
-        front_same put.long fits others_same row_absent row_absent_now
+        front_same put.long setup_still fits others_same row_absent row_absent_now

@@ -11,11 +11,13 @@ use Rattle.spool_file.specs.Breaks.{area_break, list_below}
 use Rattle.spool_file.specs.File.{StandsFor, file_in, frame_in, gates_below, slots_in, spool_break, version_in}
 use Rattle.spool_file.specs.Front.{floor_cell, front_break, front_in, front_size, magic, magic_break, magic_of}
 use Rattle.spool_file.specs.Front.{mark_cell, slots_break, unlike_at, version_gate}
+use Rattle.spool_file.specs.Setup.{Setup, setup_in}
 use Rattle.spool_file.specs.Slot.{Message, Slot, slot_in, slot_place}
 use Rattle.spool_file.specs.declared.slot.Frame.{Frame}
 use Rattle.spool_file.proofs.Fresh.{made_file}
 use Rattle.spool_file.proofs.Fronts.{floor_is, front_of, front_sound, made_frame, mark_is, of_front, slots_same}
 use Rattle.spool_file.proofs.Fronts.{unlike_front}
+use Rattle.spool_file.proofs.Setups.{setup_beside}
 use Rattle.spool_file.proofs.Upgraded.{upgraded_frame, upgraded_sound}
 use Rattle.spool_file.proofs.Wholes.{sound_area, sound_front, sound_slots, spool_sound}
 use Rattle.spool_file.proofs.Written.{bytes_beside, part_at, slot_beside}
@@ -25,37 +27,40 @@ use Rattle.spool_slots.specs.Files.{upgraded_in}
 module _ (bytes now : List ℕ) (front : front_break (front_in now) (length now) ≡ None)
     (version : version_in now ≡ version_in bytes) (count : slots_in now ≡ slots_in bytes)
     (mark : cell_in now mark_cell ≡ cell_in bytes mark_cell) (floor : cell_in now floor_cell ≡ cell_in bytes floor_cell)
-    (slots : slot_in now ≡ slot_in bytes) (sound : spool_break bytes ≡ None) where
-  same_frame : frame_in now ≡ frame_in bytes
-  same_frame =
-      ap (λ (v : ℕ). made_frame v (slots_in now) (cell_in now floor_cell).value) version
-      ∙ ap (λ (n : ℕ). made_frame (version_in bytes) n (cell_in now floor_cell).value) count
-      ∙ ap (λ (c : Cell). made_frame (version_in bytes) (slots_in bytes) c.value) floor
+    (setup : setup_in now ≡ setup_in bytes) (slots : slot_in now ≡ slot_in bytes) (sound : spool_break bytes ≡ None)
+  where
+    same_frame : frame_in now ≡ frame_in bytes
+    same_frame =
+        ap (λ (v : ℕ). made_frame v (slots_in now) (cell_in now floor_cell).value) version
+        ∙ ap (λ (n : ℕ). made_frame (version_in bytes) n (cell_in now floor_cell).value) count
+        ∙ ap (λ (c : Cell). made_frame (version_in bytes) (slots_in bytes) c.value) floor
 
-  same_list : (file_in now).list ≡ (file_in bytes).list
-  same_list =
-      ap (λ (f : Frame). list_below f (slot_in now) f.slots) same_frame
-      ∙ ap (λ (slot : ℕ → Slot). list_below (frame_in bytes) slot (slots_in bytes)) slots
+    same_list : (file_in now).list ≡ (file_in bytes).list
+    same_list =
+        ap (λ (f : Frame). list_below f (slot_in now) f.slots) same_frame
+        ∙ ap (λ (slot : ℕ → Slot). list_below (frame_in bytes) slot (slots_in bytes)) slots
 
-  -- stand for the same file
-  same_stands : StandsFor now (file_in bytes)
-  same_stands = record {
-    sound = spool_sound now (frame_in bytes) front (sym same_frame)
-        (ap (λ (slot : ℕ → Slot). area_break (frame_in bytes) slot) slots ∙ sound_area bytes sound);
-    is = sym (
-        ap (λ (v : ℕ). made_file v (slots_in now) (gates_below (slot_in now) (slots_in now)) (cell_in now mark_cell)
-        (cell_in now floor_cell) (file_in now).list) version
-        ∙ ap (λ (l : List Message). made_file (version_in bytes) (slots_in now) (gates_below (slot_in now) (slots_in now))
-        (cell_in now mark_cell) (cell_in now floor_cell) l) same_list
-        ∙ ap (λ (n : ℕ). made_file (version_in bytes) n (gates_below (slot_in now) n) (cell_in now mark_cell)
-        (cell_in now floor_cell) (file_in bytes).list) count
-        ∙ ap (λ (slot : ℕ → Slot). made_file (version_in bytes) (slots_in bytes) (gates_below slot (slots_in bytes))
-        (cell_in now mark_cell) (cell_in now floor_cell) (file_in bytes).list) slots
-        ∙ ap (λ (c : Cell). made_file (version_in bytes) (slots_in bytes) (file_in bytes).gates c (cell_in now floor_cell)
-        (file_in bytes).list) mark
-        ∙ ap (λ (c : Cell). made_file (version_in bytes) (slots_in bytes) (file_in bytes).gates (cell_in bytes mark_cell) c
-        (file_in bytes).list) floor);
-  }
+    -- stand for the same file
+    same_stands : StandsFor now (file_in bytes)
+    same_stands = record {
+      sound = spool_sound now (frame_in bytes) front (sym same_frame)
+          (ap (λ (slot : ℕ → Slot). area_break (frame_in bytes) slot) slots ∙ sound_area bytes sound);
+      is = sym (
+          ap (λ (u : Setup). made_file u (version_in now) (slots_in now) (gates_below (slot_in now) (slots_in now))
+          (cell_in now mark_cell) (cell_in now floor_cell) (file_in now).list) setup
+          ∙ ap (λ (v : ℕ). made_file (setup_in bytes) v (slots_in now) (gates_below (slot_in now) (slots_in now)) (cell_in now mark_cell)
+          (cell_in now floor_cell) (file_in now).list) version
+          ∙ ap (λ (l : List Message). made_file (setup_in bytes) (version_in bytes) (slots_in now) (gates_below (slot_in now) (slots_in now))
+          (cell_in now mark_cell) (cell_in now floor_cell) l) same_list
+          ∙ ap (λ (n : ℕ). made_file (setup_in bytes) (version_in bytes) n (gates_below (slot_in now) n) (cell_in now mark_cell)
+          (cell_in now floor_cell) (file_in bytes).list) count
+          ∙ ap (λ (slot : ℕ → Slot). made_file (setup_in bytes) (version_in bytes) (slots_in bytes) (gates_below slot (slots_in bytes))
+          (cell_in now mark_cell) (cell_in now floor_cell) (file_in bytes).list) slots
+          ∙ ap (λ (c : Cell). made_file (setup_in bytes) (version_in bytes) (slots_in bytes) (file_in bytes).gates c (cell_in now floor_cell)
+          (file_in bytes).list) mark
+          ∙ ap (λ (c : Cell). made_file (setup_in bytes) (version_in bytes) (slots_in bytes) (file_in bytes).gates (cell_in bytes mark_cell) c
+          (file_in bytes).list) floor);
+    }
 
 -- a byte in the gate of the version of a sound file
 module _ (bytes : List ℕ) (gate : ℕ) (sound : spool_break bytes ≡ None) where
@@ -85,6 +90,10 @@ module _ (bytes : List ℕ) (gate : ℕ) (sound : spool_break bytes ≡ None) wh
   cell_same : (at : ℕ) → at + 17 ≤ version_gate → cell_in now at ≡ cell_in bytes at
   cell_same at before = ap cell_of (bytes_beside bytes (gate ∷ []) version_gate within at 17 (inl before))
 
+  setup_still : setup_in now ≡ setup_in bytes
+  setup_still = setup_beside bytes (gate ∷ []) version_gate within
+      (let has = sound_slots bytes sound in omega (arith, has.some)) count (inl (omega arith))
+
   slots_there : slot_in now ≡ slot_in bytes
   slots_there = λ j k. slot_beside bytes (gate ∷ []) version_gate k within (inr (omega arith)) j
 
@@ -111,20 +120,22 @@ module _ (bytes : List ℕ) (gate : ℕ) (sound : spool_break bytes ≡ None) wh
       sound = upgraded_sound bytes now one two seven count (cell_same mark_cell (omega arith))
           (cell_same floor_cell (omega arith)) slots_there same_long sound;
       is = sym (
-          ap (λ (v : ℕ). made_file v (slots_in now) (gates_below (slot_in now) (slots_in now)) (cell_in now mark_cell)
+          ap (λ (u : Setup). made_file u (version_in now) (slots_in now) (gates_below (slot_in now) (slots_in now))
+          (cell_in now mark_cell) (cell_in now floor_cell) (file_in now).list) setup_still
+          ∙ ap (λ (v : ℕ). made_file (setup_in bytes) v (slots_in now) (gates_below (slot_in now) (slots_in now)) (cell_in now mark_cell)
           (cell_in now floor_cell) (file_in now).list) two
-          ∙ ap (λ (l : List Message). made_file 2 (slots_in now) (gates_below (slot_in now) (slots_in now))
+          ∙ ap (λ (l : List Message). made_file (setup_in bytes) 2 (slots_in now) (gates_below (slot_in now) (slots_in now))
           (cell_in now mark_cell) (cell_in now floor_cell) l)
           (ap (λ (f : Frame). list_below f (slot_in now) f.slots) frame_now
           ∙ ap (λ (slot : ℕ → Slot). list_below (made_frame 2 (slots_in bytes) (frame_in bytes).floor) slot
           (slots_in bytes)) slots_there)
-          ∙ ap (λ (n : ℕ). made_file 2 n (gates_below (slot_in now) n) (cell_in now mark_cell) (cell_in now floor_cell)
+          ∙ ap (λ (n : ℕ). made_file (setup_in bytes) 2 n (gates_below (slot_in now) n) (cell_in now mark_cell) (cell_in now floor_cell)
           (file_in bytes).list) count
-          ∙ ap (λ (slot : ℕ → Slot). made_file 2 (slots_in bytes) (gates_below slot (slots_in bytes))
+          ∙ ap (λ (slot : ℕ → Slot). made_file (setup_in bytes) 2 (slots_in bytes) (gates_below slot (slots_in bytes))
           (cell_in now mark_cell) (cell_in now floor_cell) (file_in bytes).list) slots_there
-          ∙ ap (λ (c : Cell). made_file 2 (slots_in bytes) (file_in bytes).gates c (cell_in now floor_cell)
+          ∙ ap (λ (c : Cell). made_file (setup_in bytes) 2 (slots_in bytes) (file_in bytes).gates c (cell_in now floor_cell)
           (file_in bytes).list) (cell_same mark_cell (omega arith))
-          ∙ ap (λ (c : Cell). made_file 2 (slots_in bytes) (file_in bytes).gates (cell_in bytes mark_cell) c
+          ∙ ap (λ (c : Cell). made_file (setup_in bytes) 2 (slots_in bytes) (file_in bytes).gates (cell_in bytes mark_cell) c
           (file_in bytes).list) (cell_same floor_cell (omega arith)));
     }
 
@@ -155,7 +166,7 @@ module _ (bytes : List ℕ) (gate : ℕ) (sound : spool_break bytes ≡ None) wh
 
     pub even_stands : StandsFor now (file_in bytes)
     even_stands = same_stands bytes now front_still still_one count (cell_same mark_cell (omega arith))
-        (cell_same floor_cell (omega arith)) slots_there sound
+        (cell_same floor_cell (omega arith)) setup_still slots_there sound
 
 -- the last letter of the name of a file of version 2 says nothing
 module _ (bytes : List ℕ) (letter : ℕ) (two : version_in bytes ≡ 2) (sound : spool_break bytes ≡ None) where
@@ -237,4 +248,6 @@ module _ (bytes : List ℕ) (letter : ℕ) (two : version_in bytes ≡ 2) (sound
   pub name_stands : StandsFor named (file_in bytes)
   name_stands = same_stands bytes named front_good version_same count_same (cell_beside mark_cell (omega arith))
       (cell_beside floor_cell (omega arith))
+      (setup_beside bytes (letter ∷ []) 7 inside (let has = sound_slots bytes sound in omega (arith, has.some)) count_same
+      (inl (omega arith)))
       (λ j k. slot_beside bytes (letter ∷ []) 7 k inside (inr (omega arith)) j) sound

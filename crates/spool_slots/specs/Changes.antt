@@ -258,12 +258,16 @@ DropsSized members v size (Err (dropping.Empty w)) = (w ≡ v) × (v.len ≡ 0)
 DropsSized members v size (Err (dropping.Failed spent)) =
     HasDropped members v spent.disk Failed × HasLostDrop members v spent.disk
 
--- one slot was read, and the rest is as it was
-pub record HasLooked {D : Type 0} (members : disk.Ghosts D) (v w : SpoolView D) (k : ℕ) (answer : DiskAnswer) :
+-- so many bytes from a place on were read, and the rest is as it was
+pub record HasSeen {D : Type 0} (members : disk.Ghosts D) (v w : SpoolView D) (at n : ℕ) (answer : DiskAnswer) :
     Type 0 where
   pub same : w ≡ in_hand w.disk (known_of v)
   pub told : members.told w.disk ≡ members.told v.disk
-  pub made : HasMade members v.disk w.disk (read_call (slot_place k) 4096 Done ∷ []) answer
+  pub made : HasMade members v.disk w.disk (read_call at n Done ∷ []) answer
+
+-- one slot was
+abbrev pub HasLooked : {D : Type 0} → disk.Ghosts D → (v w : SpoolView D) → (k : ℕ) → DiskAnswer → Type 0
+HasLooked members v w k answer = HasSeen members v w (slot_place k) 4096 answer
 
 -- the buffer has a slot's bytes
 abbrev pub HasSlot : {D : Type 0} → disk.Ghosts D → SpoolView D → (k : ℕ) → List ℕ → Type 0

@@ -1,8 +1,11 @@
 -- How a spool file changes (this profile).
-use Rattle.std.specs.Prelude.{ℕ, zero, suc, ◌+◌, ◌%◌, Bool, true, false, List, [], ◌∷◌, ◌++◌, drop, set}
-use Rattle.gate_cell.specs.Cell.{Cell, with_value}
+use Rattle.std.specs.Prelude.{ℕ, zero, suc, ◌+◌, ◌%◌, Bool, true, false, List, [], ◌∷◌, ◌++◌, drop, set, Option}
+use Rattle.std.specs.Option.{option_map}
+use Rattle.disk_base.specs.Story.{with_part}
+use Rattle.gate_cell.specs.Cell.{Cell, cell_in, with_value}
 use Rattle.spool_file.specs.Area.{first_of}
 use Rattle.spool_file.specs.File.{SpoolFile, file_in, slots_in}
+use Rattle.spool_file.specs.Setup.{Setup, area_in, setup_cell, setup_of}
 use Rattle.spool_file.specs.Slot.{Message, slot_in, slot_message}
 
 -- other gates are open, and nothing else has changed
@@ -13,6 +16,7 @@ with_gates gates file = record {
   gates = gates;
   mark = file.mark;
   floor = file.floor;
+  setup = file.setup;
   list = file.list;
 }
 
@@ -32,6 +36,7 @@ with_message message file = record {
   gates = set file.gates (message.number % file.slots) true;
   mark = file.mark;
   floor = file.floor;
+  setup = file.setup;
   list = file.list ++ message ∷ [];
 }
 
@@ -43,6 +48,7 @@ without_first file = record {
   gates = set file.gates (first_of file.floor.value file.list % file.slots) false;
   mark = file.mark;
   floor = file.floor;
+  setup = file.setup;
   list = drop 1 file.list;
 }
 
@@ -54,6 +60,7 @@ with_floor_moved next file = record {
   gates = file.gates;
   mark = file.mark;
   floor = with_value next file.floor;
+  setup = file.setup;
   list = [];
 }
 
@@ -65,6 +72,7 @@ with_mark mark file = record {
   gates = file.gates;
   mark = mark;
   floor = file.floor;
+  setup = file.setup;
   list = file.list;
 }
 
@@ -79,6 +87,19 @@ upgraded file = record {
   gates = file.gates;
   mark = file.mark;
   floor = file.floor;
+  setup = file.setup;
+  list = file.list;
+}
+
+-- with another setup
+abbrev pub with_setup : Setup → SpoolFile → SpoolFile
+with_setup setup file = record {
+  version = file.version;
+  slots = file.slots;
+  gates = file.gates;
+  mark = file.mark;
+  floor = file.floor;
+  setup = setup;
   list = file.list;
 }
 
@@ -102,3 +123,15 @@ cleared_in next bytes = with_floor_moved next (file_in bytes)
 
 abbrev pub upgraded_in : List ℕ → SpoolFile
 upgraded_in bytes = upgraded (file_in bytes)
+
+-- with another value of the setup's cell
+abbrev pub set_in : (value : ℕ) → List ℕ → SpoolFile
+set_in value bytes =
+    with_setup (setup_of (with_value value (cell_in bytes setup_cell)) (area_in bytes)) (file_in bytes)
+
+-- with some bytes written at a place of the area
+abbrev pub area_written : (at : ℕ) → List ℕ → List ℕ → Option (List ℕ)
+area_written at part bytes = option_map (λ area. with_part area at part) (area_in bytes)
+
+abbrev pub written_in : (at : ℕ) → List ℕ → List ℕ → SpoolFile
+written_in at part bytes = with_setup (setup_of (cell_in bytes setup_cell) (area_written at part bytes)) (file_in bytes)

@@ -6,5 +6,6 @@ pub mod Fitting
 pub mod Format
 pub mod Losses
 pub mod Put
+pub mod Setup
 pub mod Spool
 pub mod Work

@@ -7,7 +7,7 @@ ghost use Rattle.spool_slots.specs.Format.{Formats};
 use crate::spool::{Spool, taken_up};
 use disk_base::{Disk, DiskAnswer};
 use spool_file::{
-    Known, NotSpool, Reading, SLOTS_MOST, SlotHead, read_file, slot_place, write_empty,
+    Known, NotSpool, Reading, SLOTS_MOST, SlotHead, area_end, read_file, write_empty,
 };
 
 /// A device of which nothing is known.
@@ -27,7 +27,7 @@ pub struct Spent<D> {
 pub enum Formatting<D> {
     /// No file has so many slots: a number from 1 to 65,535 is asked for.
     Slots(Raw<D>),
-    /// The device has fewer bytes than these slots need.
+    /// The device has fewer bytes than these slots and the area behind them need.
     Small { raw: Raw<D>, size: u64, need: u64 },
     Failed(Spent<D>),
 }
@@ -78,6 +78,15 @@ pub enum OldestAnswer {
     Failed,
 }
 
+/// What a look at the gate of the setup's cell came to.
+#[derive(Clone, Copy, Debug, PartialEq, Eq)]
+pub enum PlaceAnswer {
+    /// Where the copy begins that has the value.
+    Place(u64),
+    /// The disk failed.
+    Failed,
+}
+
 impl<D: Disk> Raw<D> {
     /// Takes a device.
     pub fn new(disk: D) -> Raw<D>
@@ -86,9 +95,9 @@ impl<D: Disk> Raw<D> {
         Raw { disk }
     }
 
-    /// Makes the file of an empty list, mark 0 and floor 0, and syncs. A number of slots that no file has is refused
-    /// first, then a device that is too small for them; neither is touched. Until this is `Ok` a crash may leave
-    /// anything.
+    /// Makes the file of an empty list, mark 0 and floor 0, with an area of zeros behind its slots, and syncs. It makes
+    /// 34 calls of the disk and one a slot. A number of slots that no file has is refused first, then a device that is
+    /// too small for them and the area; neither is touched. Until this is `Ok` a crash may leave anything.
     pub fn format(self, slots: u32) -> Result<Spool<D>, Formatting<D>>
         ensures { Formats D.Disk self.disk slots result }
     {
@@ -99,7 +108,7 @@ impl<D: Disk> Raw<D> {
             return Err(Formatting::Slots(self));
         }
         let mut disk = self.disk;
-        let (size, need) = (disk.size(), slot_place(slots));
+        let (size, need) = (disk.size(), area_end(slots));
         if size < need {
             return Err(Formatting::Small {
                 raw: Raw { disk },

@@ -13,9 +13,9 @@ taken_up-requires g c =
     let some : 1 ≤ c.args.slots = grind (arith, c.if-slots-eq0.false) in
     let most : c.args.slots ≤ 65535 = omega (arith, c.if-slots-gt-SLOTS_MOST.false) in
     let fits : slot_place c.args.slots ≤ g.D.Disk.size_is c.write_empty.new.disk =
-    omega (arith, c.if-size-need.false, c.size-size.ensures, c.slot_place-need.ensures, c.in-Done.ensures.size) in
+    omega (arith, c.if-size-need.false, c.size-size.ensures, c.area_end-need.ensures, c.in-Done.ensures.size) in
     subst (λ (n : Known). IsSpool g.D.Disk (in_hand c.write_empty.new.disk n)) (sym c.new.ensures)
-    (empty_spool g.D.Disk c.write_empty.new.disk c.args.slots some most fits c.in-Done.ensures.told
+    (empty_spool g.D.Disk c.write_empty.new.disk c.args.slots some most fits (λ t told. (c.in-Done.ensures.told t told).ends)
     (λ t told. g.met.D.Disk.sized c.write_empty.new.disk t told))
 
 pub returns-in-Done : goal.returns-in-Done
