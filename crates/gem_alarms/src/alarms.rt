@@ -122,6 +122,16 @@ impl Alarms {
         }
     }
 
+    /// What [`Alarms::enable`] would answer. It changes nothing.
+    pub fn judge_enable(&self, alid: Option<u32>) -> Ackc5
+        ensures { result ≡ ackc5_of self.now alid }
+    {
+        match alid {
+            Some(alid) if !self.alarms.contains_key(&alid) => Ackc5::Unknown(alid),
+            _ => Ackc5::Done,
+        }
+    }
+
     /// The body of S5F1, and a row of S5F6: ALCD, ALID and ALTX. Of an unknown alarm ALCD and ALTX are empty.
     pub fn body(&self, alloc: Global, alid: u32) -> Result<Item, NoMemory>
         ensures { IfOk result (λ body. body ≡ body_of self.now alid) }

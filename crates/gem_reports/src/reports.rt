@@ -1,5 +1,5 @@
 //! The events and reports of a tool, behind S2F33, S2F35 and S2F37. A refused request changes nothing, so definitions
-//! and links are tried on copies.
+//! and links are tried on copies; what is only judged is tried on one that is dropped.
 
 ghost use Rattle.std.specs.Prelude.{◌≡◌, ◌≢◌, ◌&&◌, List, ℕ, [], ◌∷◌, IfOk, Ok};
 ghost use Rattle.gem_vars.specs.Tables.{value_in};
@@ -8,6 +8,7 @@ ghost use Rattle.gem_reports.specs.declared.answers.Erack.TheVariants as erack;
 ghost use Rattle.gem_reports.specs.declared.answers.Lrack.TheVariants as lrack;
 ghost use Rattle.gem_reports.specs.Answers.{drack_of, erack_of, lrack_of, past_after_define, past_after_link};
 ghost use Rattle.gem_reports.specs.Bodies.{event_body_at, report_body_at};
+ghost use Rattle.gem_reports.specs.Drafts.{IsDraft, IsLinkDraft};
 ghost use Rattle.gem_reports.specs.History.{ReportEntry, enabled_at, is_event};
 ghost use Rattle.gem_reports.specs.History.ReportEntry.{Enable};
 ghost use Rattle.gem_reports.specs.Tables.{StandsFor};
@@ -87,10 +88,7 @@ impl Reports {
             self.standing.clear();
             return Ok(Drack::Done);
         }
-        let mut draft = Draft {
-            standing: self.standing.copy(alloc)?,
-            deleted: IndexSet::new(alloc),
-        };
+        let mut draft = self.draft(alloc)?;
         let answer = draft.enter_each(alloc, vars, list)?;
         if !answer.is_done() {
             return Ok(answer);
@@ -98,6 +96,30 @@ impl Reports {
         self.events = self.events.without(alloc, &draft.deleted)?;
         self.standing = draft.standing;
         Ok(Drack::Done)
+    }
+
+    /// What [`Reports::define`] would answer. It changes nothing.
+    pub fn judge_define(
+        &self,
+        alloc: Global,
+        vars: &Vars,
+        list: &[Definition],
+    ) -> Result<Drack, NoMemory>
+        ensures { (events : List ℕ) (past : List ReportEntry) → StandsFor self.now events past →
+            IfOk result (λ answer. answer ≡ drack_of (value_in vars.now) past list.now) }
+    {
+        self.draft(alloc)?.enter_each(alloc, vars, list)
+    }
+
+    // A copy before any entry.
+    fn draft(&self, alloc: Global) -> Result<Draft, NoMemory>
+        ensures { (events : List ℕ) (past : List ReportEntry) → StandsFor self.now events past →
+            IfOk result (λ draft. IsDraft draft.standing draft.deleted.keys past past) }
+    {
+        Ok(Draft {
+            standing: self.standing.copy(alloc)?,
+            deleted: IndexSet::new(alloc),
+        })
     }
 
     /// S2F35: links reports to events. An entry without RPTIDs unlinks its event; a list without entries changes
@@ -114,16 +136,33 @@ impl Reports {
             result ≡ Ok lrack.Done → StandsFor self.new events (past_after_link past list.now) }
         ensures refused { result ≢ Ok lrack.Done → self.new ≡ self.old }
     {
-        let mut draft = Links {
-            events: self.events.without(alloc, &IndexSet::new(alloc))?,
-            count: self.events.link_count(),
-        };
+        let mut draft = self.link_draft(alloc)?;
         let answer = draft.enter_each(alloc, &self.standing, list)?;
         if !answer.is_done() {
             return Ok(answer);
         }
         self.events = draft.events;
         Ok(Lrack::Done)
+    }
+
+    /// What [`Reports::link`] would answer. It changes nothing.
+    pub fn judge_link(&self, alloc: Global, list: &[Linking]) -> Result<Lrack, NoMemory>
+        ensures { (events : List ℕ) (past : List ReportEntry) → StandsFor self.now events past →
+            IfOk result (λ answer. answer ≡ lrack_of events past list.now) }
+    {
+        self.link_draft(alloc)?
+            .enter_each(alloc, &self.standing, list)
+    }
+
+    // A copy before any entry.
+    fn link_draft(&self, alloc: Global) -> Result<Links, NoMemory>
+        ensures { (events : List ℕ) (past : List ReportEntry) → StandsFor self.now events past →
+            IfOk result (λ draft. IsLinkDraft draft.events draft.count self.now.reports events past) }
+    {
+        Ok(Links {
+            events: self.events.without(alloc, &IndexSet::new(alloc))?,
+            count: self.events.link_count(),
+        })
     }
 
     /// S2F37: enables the events with these CEIDs, or disables them; a list without CEIDs is all events.
@@ -136,12 +175,21 @@ impl Reports {
             result ≡ erack.Done → StandsFor self.new events (Enable on list.now ∷ past) }
         ensures refused { result ≢ erack.Done → self.new ≡ self.old }
     {
+        let answer = self.judge_enable(list);
+        if let Erack::Done = answer {
+            self.events.enable(on, list);
+        }
+        answer
+    }
+
+    /// What [`Reports::enable`] would answer. It changes nothing.
+    pub fn judge_enable(&self, list: &[u32]) -> Erack
+        ensures { (events : List ℕ) (past : List ReportEntry) → StandsFor self.now events past →
+            result ≡ erack_of events list.now }
+    {
         match self.events.first_unknown(list) {
             Some(ceid) => Erack::Unknown(*ceid),
-            None => {
-                self.events.enable(on, list);
-                Erack::Done
-            }
+            None => Erack::Done,
         }
     }
 

@@ -32,7 +32,7 @@ one_request (Some primary) body r q a b = one_fits (shape_of primary) body r q a
 
 -- ---- nothing
 
-empty_is : (x : Item-F Item) (i : Item) → roll-Item x ≡ i → is_empty_list x ≡ true → i ≡ item.L []
+pub empty_is : (x : Item-F Item) (i : Item) → roll-Item x ≡ i → is_empty_list x ≡ true → i ≡ item.L []
 empty_is (Item-F.L []) i r e = sym r ∙ rolls-L []
 empty_is (Item-F.L (j ∷ items)) i r e = absurd (omega (arith, eqb-true (length (j ∷ items)) 0 e))
 empty_is (Item-F.B xs) i r e = absurd cc
@@ -50,7 +50,7 @@ empty_is (Item-F.U8 xs) i r e = absurd cc
 empty_is (Item-F.F4 xs) i r e = absurd cc
 empty_is (Item-F.F8 xs) i r e = absurd cc
 
-opened_empty : is_empty_list (out-Item (item.L [])) ≡ true
+pub opened_empty : is_empty_list (out-Item (item.L [])) ≡ true
 opened_empty = ap is_empty_list (ap out-Item (sym (rolls-L [])) ∙ out-roll-Item (Item-F.L []))
 
 -- no item is spelled by no bytes

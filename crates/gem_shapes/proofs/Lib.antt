@@ -1,3 +1,4 @@
+mod Asked
 mod Asking
 mod Contents
 mod Lists

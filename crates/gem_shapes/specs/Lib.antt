@@ -1,4 +1,5 @@
 pub mod Answers
+pub mod Asked
 pub mod Elements
 pub mod Laws
 pub mod Parts

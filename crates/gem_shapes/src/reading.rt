@@ -3,6 +3,7 @@
 ghost use Rattle.std.specs.Prelude.{◌≡◌, ◌↔◌, Some, IfOk, IsTrue};
 ghost use Rattle.secs_items.specs.Checking.{check_of};
 ghost use Rattle.gem_shapes.specs.declared.primary.Primary.TheVariants as primary;
+ghost use Rattle.gem_shapes.specs.Asked.{request_of};
 ghost use Rattle.gem_shapes.specs.Requests.{Asks, AsksFor, FitsShape, IsAskedByItem, IsFound, IsNothing, request_in, shape_of};
 ghost use Rattle.gem_shapes.specs.Requests.Shape.{Nothing};
 
@@ -28,7 +29,8 @@ pub fn read_request<'a>(
     check: &BodyCheck,
 ) -> Result<Option<Request<'a>>, NoMemory>
     requires { check.now ≡ check_of body.now }
-    ensures { IfOk result (λ found. IsFound (Asks stream function body.now) found) }
+    ensures found { IfOk result (λ found. found ≡ request_of stream function body.now) }
+    ensures asks { IfOk result (λ found. IsFound (Asks stream function body.now) found) }
 {
     match Primary::with(stream, function) {
         Some(primary) => primary.request(alloc, body, check),

@@ -133,14 +133,15 @@ impl Vars {
         ensures refused { result ≢ eac.Done → self.new ≡ self.old }
         ensures ecids { ecids_of self.new ≡ ecids_of self.old }
     {
-        let eac = self.first_fault(list);
+        let eac = self.judge_constants(list);
         if let Eac::Done = eac {
             self.put_values(list);
         }
         eac
     }
 
-    fn first_fault(&self, list: &[(u32, u32)]) -> Eac
+    /// What [`Vars::set_constants`] would answer. It changes nothing.
+    pub fn judge_constants(&self, list: &[(u32, u32)]) -> Eac
         ensures { result ≡ eac_of self.now list.now }
     {
         for (ecid, value) in list {

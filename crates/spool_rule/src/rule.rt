@@ -61,12 +61,23 @@ impl SpoolRule {
         ensures rule { IfOk result (λ answer. self.new ≡ rule_by answer entries.now self.old) }
         ensures no_memory { OnErr result (self.new ≡ self.old) }
     {
-        let faults = faults_of(alloc, entries)?;
-        if !faults.is_empty() {
-            return Ok(RuleAnswer::Rejected(faults));
+        let answer = SpoolRule::judge(alloc, entries)?;
+        if let RuleAnswer::Replaced = answer {
+            *self = SpoolRule::new(entries);
         }
-        *self = SpoolRule::new(entries);
-        Ok(RuleAnswer::Replaced)
+        Ok(answer)
+    }
+
+    /// What [`SpoolRule::replace`] would answer, whatever the rule is. It changes nothing.
+    pub fn judge(alloc: Global, entries: &[RuleEntry]) -> Result<RuleAnswer, NoMemory>
+        ensures { IfOk result (λ answer. answer ≡ answer_of entries.now) }
+    {
+        let faults = faults_of(alloc, entries)?;
+        if faults.is_empty() {
+            Ok(RuleAnswer::Replaced)
+        } else {
+            Ok(RuleAnswer::Rejected(faults))
+        }
     }
 
     /// Whether this primary is spooled.

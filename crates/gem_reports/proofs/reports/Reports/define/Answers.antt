@@ -5,7 +5,7 @@ use Rattle.gem_tables.specs.Rows.{with_each}
 use Rattle.gem_reports.specs.Answers.{past_with_definitions}
 use Rattle.gem_reports.specs.Events.{with_no_links, without}
 use Rattle.gem_reports.specs.Tables.{ReportsView, StandsFor}
-use Rattle.gem_reports.proofs.Entering.{defined_stands, deleted_stands, drafted_copy, some_defined}
+use Rattle.gem_reports.proofs.Entering.{defined_stands, deleted_stands, some_defined}
 use Rattle.gem_reports.proofs.reports.Reports.define.Goals as goal
 
 pub returns-then-is_empty-clause-stands : goal.returns-then-is_empty-clause-stands
@@ -16,26 +16,19 @@ returns-then-is_empty-clause-stands c = λ events past stands done.
 
 pub returns-then-not-is_done-clause-answer : goal.returns-then-not-is_done-clause-answer
 returns-then-not-is_done-clause-answer c = λ events past stands.
-    let draft =
-    drafted_copy c.args.self.now c.in_ok-copy.field-0 c.new.result.keys events past stands
-    (c.in_ok-copy.ensures ∙ ap (λ (v : ReportsView). v.reports) c.self.view_is) c.new.ensures.empty in
-    c.in_ok-answer.ensures.answer past past draft
+    c.in_ok-answer.ensures.answer past past (c.in_ok-draft.ensures events past stands)
 
 pub returns-clause-answer : goal.returns-clause-answer
 returns-clause-answer c = λ events past stands.
-    let draft =
-    drafted_copy c.args.self.now c.in_ok-copy.field-0 c.new.result.keys events past stands
-    (c.in_ok-copy.ensures ∙ ap (λ (v : ReportsView). v.reports) c.self.view_is) c.new.ensures.empty in
-    sym (c.is_done.ensures.0 c.if-not-is_done.false) ∙ c.in_ok-answer.ensures.answer past past draft
+    sym (c.is_done.ensures.0 c.if-not-is_done.false)
+    ∙ c.in_ok-answer.ensures.answer past past (c.in_ok-draft.ensures events past stands)
 
 pub returns-clause-stands : goal.returns-clause-stands
 returns-clause-stands c = λ events past stands done.
-    let draft =
-    drafted_copy c.args.self.now c.in_ok-copy.field-0 c.new.result.keys events past stands
-    (c.in_ok-copy.ensures ∙ ap (λ (v : ReportsView). v.reports) c.self.view_is) c.new.ensures.empty in
     let gone = c.enter_each.new.self.deleted.keys in
     let then =
-    c.in_ok-answer.ensures.draft past past draft (c.is_done.ensures.0 c.if-not-is_done.false) in
+    c.in_ok-answer.ensures.draft past past (c.in_ok-draft.ensures events past stands)
+    (c.is_done.ensures.0 c.if-not-is_done.false) in
     subst (StandsFor (record { events = c.in_ok-self-inside.field-0; reports = c.enter_each.new.self.standing }) events)
     (some_defined past c.args.list.now (sym c.if-is_empty.ensures))
     (defined_stands c.args.self.now c.in_ok-self-inside.field-0 c.enter_each.new.self.standing gone events past
