@@ -5,4 +5,6 @@ pub mod Plan
 pub mod RemoteAnswers
 pub mod Requests
 pub mod SameItems
+pub mod Setup
 pub mod Tables
+pub mod WorkedSetup

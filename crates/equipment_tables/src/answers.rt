@@ -106,7 +106,7 @@ fn code_answer(alloc: Global, code: u8, max_body: u32) -> Result<Answer, NoMemor
     bounded(alloc, &code_item(alloc, code)?, max_body)
 }
 
-fn eac_code(eac: Eac) -> u8
+pub(crate) fn eac_code(eac: Eac) -> u8
     ensures { result ≡ eac_code eac }
 {
     match eac {
@@ -116,7 +116,7 @@ fn eac_code(eac: Eac) -> u8
     }
 }
 
-fn drack_code(drack: Drack) -> u8
+pub(crate) fn drack_code(drack: Drack) -> u8
     ensures { result ≡ drack_code drack }
 {
     match drack {
@@ -127,7 +127,7 @@ fn drack_code(drack: Drack) -> u8
     }
 }
 
-fn lrack_code(lrack: Lrack) -> u8
+pub(crate) fn lrack_code(lrack: Lrack) -> u8
     ensures { result ≡ lrack_code lrack }
 {
     match lrack {
@@ -139,7 +139,7 @@ fn lrack_code(lrack: Lrack) -> u8
     }
 }
 
-fn erack_code(erack: Erack) -> u8
+pub(crate) fn erack_code(erack: Erack) -> u8
     ensures { result ≡ erack_code erack }
 {
     match erack {
@@ -148,7 +148,7 @@ fn erack_code(erack: Erack) -> u8
     }
 }
 
-fn ackc5_code(ackc5: Ackc5) -> u8
+pub(crate) fn ackc5_code(ackc5: Ackc5) -> u8
     ensures { result ≡ ackc5_code ackc5 }
 {
     match ackc5 {

@@ -1,6 +1,8 @@
 //! The law of the tables as a whole, put together from those of variables, reports, alarms and the spool's rule.
 
 ghost use Rattle.equipment_tables.specs.Laws.{TablesAreLookedBackFor};
+ghost use Rattle.equipment_tables.specs.Setup.{KeptTellsTheSame};
+ghost use Rattle.equipment_tables.specs.WorkedSetup.{SetupsAreAsWorked};
 
 use gem_alarms::alarms_are_looked_back_for;
 use gem_reports::reports_go_by_what_stands;
@@ -18,3 +20,18 @@ pub fn tables_are_looked_back_for()
     alarms_are_looked_back_for();
     the_rule_is_looked_back_for();
 }
+
+/// What is kept of the accepted primaries tells the same as all of them: a start that carries it out has the constants,
+/// the reports with their links and enables, the alarms' enables and the rule that the start before it had in the end,
+/// whatever was asked and commanded meanwhile. The plan is the same one.
+pub fn kept_tells_the_same()
+    ensures { KeptTellsTheSame }
+{
+    reports_go_by_what_stands();
+}
+
+/// Setups that were worked by hand: what is kept of them, and that a list that forgets links, or constants that the
+/// newest one doesn't name, tells something else.
+pub fn setups_are_as_worked()
+    ensures { SetupsAreAsWorked }
+{}

@@ -13,6 +13,8 @@ mod remote;
 #[cfg(test)]
 mod reports;
 #[cfg(test)]
+mod setup;
+#[cfg(test)]
 mod shapes;
 #[cfg(test)]
 mod spelled;

@@ -1,0 +1,4 @@
+mod Breaks
+mod KeptEntries
+mod ReadLists
+pub mod WorkedLists
