@@ -29,3 +29,4 @@ pub mod Reading
 pub mod Starts
 pub mod Steps
 pub mod Such
+pub mod WorkedStarts

@@ -172,12 +172,14 @@ module _
         (record {
           base = s.core.numbers.next;
           note = bare_start plan.side s.core.numbers.next;
+          said = [];
           is = record {
             sound = again s.own did.sound;
             is = (core.lawful {K = K} laws).begins plan s.core.numbers fits did.is.core.numbers.left;
           };
           above = omega arith;
           of_side = bare-start plan.side s.core.numbers.next;
+          of_start = tt;
           notes = refl;
           written = refl;
         });
@@ -198,12 +200,14 @@ module _
     starts = record {
       base = 0;
       note = bare_start plan.side 0;
+      said = [];
       is = record {
         sound = sound;
         is = (core.lawful {K = K} laws).begins plan (numbers_from 0 (2 ^ 32)) fits all_left;
       };
       above = omega arith;
       of_side = bare-start plan.side 0;
+      of_start = tt;
       notes = refl;
       written = refl;
     };

@@ -27,7 +27,7 @@ use Rattle.message_end.specs.InStep.{AreOfOneStep, EndsOnce, HasNoEnd, NoneEnds,
 use Rattle.message_end.specs.LineCalls.{calls_in}
 use Rattle.message_end.specs.Own.{Has, drawn_in, whole_in}
 use Rattle.message_end.specs.Plan.{EndPlan}
-use Rattle.message_end.specs.Starts.{IsStartOf}
+use Rattle.message_end.specs.Starts.{AreOfStart, IsStartOf}
 
 -- what an end is given in a step: a character, time, or a command of its own side
 pub data Input (C : Type 0) : Type 0 where
@@ -55,15 +55,16 @@ pub record Loss (S : Type 0) : Type 0 where
   pub left : CutChoice → S
 
 -- what an end makes of its state in a step at a moment, and when it starts anew without power; and its line. A step
--- that ends early either fills the end's own store, or its numbers are spent. Its disk may stop a step, or a start,
--- with these notes: one list for each piece of work that it asks of the disk, in their order; and all of them ask so
--- much of it. A step may be stopped, or its power lost, at each call of the disk, in their order; and so much has been
--- asked of the disk behind a first start, which finds the file made, and behind a start anew, which has taken it up
+-- that ends early lacks room in the end's own store, or else numbers: so a step that goes on is never asked what it
+-- lacks. Its disk may stop a step, or a start, with these notes: one list for each piece of work that it asks of the
+-- disk, in their order; and all of them ask so much of it. A step may be stopped, or its power lost, at each call of
+-- the disk, in their order; and so much has been asked of the disk behind a first start, which finds the file made, and
+-- behind a start anew, which has taken it up
 pub record Machine (S C : Type 0) : Type 0 where
   pub act : S → Input C → ℕ → Went S Happening
   pub restart : S → ℕ → Went S Happening
   pub line : S → LineState
-  pub fills : S → Input C → ℕ → Bool
+  pub lacks_room : S → Input C → ℕ → Bool
   pub stops : S → Input C → ℕ → List (List Happening)
   pub start_stops : List (List Happening)
   pub asks : S → Input C → ℕ → Asked
@@ -179,17 +180,17 @@ pub record HasStopped {S : Type 0} (fronts : List (List Happening)) (went : Went
   pub notes : out.notes ≡ printed front
   pub quiet : out.line.items ≡ []
 
--- a step goes on, or ends early, by what it fills, or the disk stops it with some of these notes. Where memory runs out
--- nothing is sent, and no more is said
+-- a step goes on, or ends early, for want of room or of numbers, or the disk stops it with some of these notes. Where
+-- memory runs out nothing is sent, and no more is said
 abbrev pub Leaves :
     {S : Type 0} → List (List Happening) → Bool → Went S Happening → S → StepOut → Result (Unit {0}) Stop → Type 0
-Leaves fronts fills went next out (Ok done) = HasGone went next out
-Leaves fronts fills went next out (Err stop.NumbersSpent) = HasSpent went out × (fills ≡ false)
-Leaves fronts fills went next out (Err stop.Full) = HasSpent went out × (fills ≡ true)
-Leaves fronts fills went next out (Err stop.DiskFailed) = HasStopped fronts went out
-Leaves fronts fills went next out (Err stop.NoMemory) = out.line.items ≡ []
+Leaves fronts lacks_room went next out (Ok done) = HasGone went next out
+Leaves fronts lacks_room went next out (Err stop.NumbersSpent) = HasSpent went out × (lacks_room ≡ false)
+Leaves fronts lacks_room went next out (Err stop.Full) = HasSpent went out × (lacks_room ≡ true)
+Leaves fronts lacks_room went next out (Err stop.DiskFailed) = HasStopped fronts went out
+Leaves fronts lacks_room went next out (Err stop.NoMemory) = out.line.items ≡ []
 
--- the same of a first start, which gives an end and fills nothing
+-- the same of a first start, which gives an end and needs no room
 abbrev pub Starts :
     {E S : Type 0} → List (List Happening) → Went S Happening → (E → S) → StepOut → Result E Stop → Type 0
 Starts fronts went means out (Ok end) = HasGone went (means end) out
@@ -324,15 +325,18 @@ DoesStep plan did base doings input now (Goes step) =
 DoesStep plan did base doings input now (Spent step) =
     DoesMore plan did base doings now (AreBegunOf input now) HasNoEnd step
 
--- a start: the end has done nothing yet, may draw numbers from a base on, and notes the start alone
+-- a start: the end may draw numbers from a base on, notes the start, and behind that nothing, or what it does with its
+-- setup; and it has done nothing else
 pub record HasStarted {S : Type 0}
     (plan : EndPlan) (did : ℕ → List Doing → S → Type 0) (least : ℕ) (step : Step S Happening) : Type 0 where
   pub base : ℕ
   pub note : Happening
-  pub is : did base [] step.next
+  pub said : List Doing
+  pub is : did base said step.next
   pub above : least ≤ base
   pub of_side : IsStartOf plan.side note base
-  pub notes : step.notes ≡ note ∷ []
+  pub of_start : AreOfStart said
+  pub notes : step.notes ≡ note ∷ noted_in said
   pub written : step.written ≡ []
 
 -- it draws no number again that was drawn in the start before

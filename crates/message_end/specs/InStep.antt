@@ -1,6 +1,6 @@
 -- What an end does in the step that it makes, over its doings since its start: that a reply goes in the step in which
 -- its primary was received, and how a step ends. The newest comes first.
-use Rattle.std.specs.Prelude.{◌≡◌, ℕ, true, false, List, [], ◌∷◌, Option, Some, None}
+use Rattle.std.specs.Prelude.{◌≡◌, true, false, List, [], ◌∷◌, Option, Some, None}
 use Rattle.gl_base.specs.declared.side.Side.{Side}
 use Rattle.gl_base.specs.Side.{other_side}
 use Rattle.message_flow.specs.declared.message.Message.{Message}

@@ -18,4 +18,5 @@ pub mod Parts
 pub mod Plan
 pub mod Starts
 pub mod Worked
+pub mod WorkedStarts
 pub mod WorkedSteps

@@ -3,6 +3,7 @@
 ghost use Rattle.message_end.specs.Fronts.{StopsAreLawful};
 ghost use Rattle.message_end.specs.Laws.{EndsAreLawful, NotesAreRead};
 ghost use Rattle.message_end.specs.Worked.{IsSilent};
+ghost use Rattle.message_end.specs.WorkedStarts.{StartsNoteSetups};
 ghost use Rattle.message_end.specs.WorkedSteps.{StepsOfReplies};
 
 use crate::ends::End;
@@ -47,4 +48,10 @@ pub fn worked_run()
 /// Examples of replies: one goes in the step of its primary, one in the next step, and one twice.
 pub fn worked_steps()
     ensures { StepsOfReplies }
+{}
+
+/// Examples of starts: two note themselves alone, or their setup and their end behind that; one leaves its end out, one
+/// notes something else, and one leaves itself out.
+pub fn worked_starts()
+    ensures { StartsNoteSetups }
 {}

@@ -19,7 +19,7 @@ pub enum NodeInput<'a, C> {
 pub struct Note {
     /// The line's bytes.
     pub text: Row<u8>,
-    /// Whether it stands before a change of the spool's list. Where that change fails nothing behind this is told.
+    /// Whether it stands before a change of what its end's file keeps. Where that fails nothing behind this is told.
     pub before_change: bool,
 }
 

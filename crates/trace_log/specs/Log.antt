@@ -28,9 +28,10 @@ pub data Past : Type 0 where
   Commanded : (command : ToolCommand) → Past
   Asked : (request : Message) → Past
 
--- what a host finds at a start in its journal, each record with its number, and the first number that it may draw
+-- what a host finds at a start in the file of its journal, each message with its number, and the first number that it
+-- may draw; each one that it has listed there begins with its system bytes
 pub record Journal : Type 0 where
-  pub found : List (ℕ × Record)
+  pub found : List (ℕ × Spooled)
   pub base : ℕ
 
 -- what an end notes (this profile); each is one line of the trace, but `Recorded` and `StepEnded`, which print none,
@@ -54,7 +55,8 @@ pub data Happening : Type 0 where
   Control : (state : ControlName) → Happening
   Spool : (active : Bool) → Happening
   -- a variable was set; an event happened, with its number within the start; an alarm was set or cleared; a remote
-  -- command was accepted; a terminal displays a text; a command of the tool was refused
+  -- command was accepted; a terminal displays a text; a command of the tool was refused, or, at a start, a primary that
+  -- its setup keeps
   Set : (vid : ℕ) → Happening
   Event : (ceid dataid : ℕ) → Happening
   Alarm : (alid : ℕ) (set : Bool) → Happening
@@ -71,8 +73,8 @@ pub data Happening : Type 0 where
   Try : (number system : ℕ) → Happening
   -- before and after a primary that was accepted is kept with the setup; before and after a message that was delivered
   -- is put into the journal
-  Keeping : (primary : KeptPrimary) → Happening
-  Kept : (primary : KeptPrimary) → Happening
+  Keeping : (primary : Message) → Happening
+  Kept : (primary : Message) → Happening
   Listing : (number : ℕ) (listed : Record) → Happening
   Listed : (number : ℕ) (listed : Record) → Happening
   -- what a block that arrived was, where it is no part of a message; T4 has dropped the message of this last block
@@ -98,10 +100,13 @@ pub data Happening : Type 0 where
   -- the end has come to the end of a step
   StepEnded : Happening
 
--- a line that stands before a change of the spool's list
+-- a note that stands before a change of what the file of its end keeps: where the disk stops that change, nothing is
+-- noted behind it
 abbrev pub is_before_change : Happening → Bool
 is_before_change (Storing number message) = true
 is_before_change (Leaving number cause room_for) = true
+is_before_change (Keeping primary) = true
+is_before_change (Listing number listed) = true
 is_before_change _ = false
 
 -- an entry of a log, with its moment in milliseconds: what an end has noted; the characters of a block that are no

@@ -1,5 +1,5 @@
 -- How messages and states are named in a log (this profile).
-use Rattle.std.specs.Prelude.{ℕ, true, false, List, codes, ◌++◌}
+use Rattle.std.specs.Prelude.{ℕ, true, List, codes, ◌++◌}
 use Rattle.std.specs.Int.{w32, to_be_bytes}
 use Rattle.hex.specs.Hex.{encode_upper}
 use Rattle.block_codec.specs.declared.header.Header.{Header}
@@ -27,13 +27,13 @@ pub record Record : Type 0 where
   pub system : ℕ
   pub body : List ℕ
 
--- a primary of the host as the setup keeps it, whether its reply was awaited or not
+-- a primary of the host as the setup keeps it; whether its reply was awaited isn't kept
 pub record KeptPrimary : Type 0 where
   pub stream : ℕ
   pub function : ℕ
   pub body : List ℕ
 
--- the names of a message, of a spooled one, of a record, of a primary that is kept, and of the message of a block
+-- the names of a message, of a spooled one, of a record, and of the message of a block
 abbrev pub message_name : Message → Name
 message_name message = record { stream = message.stream; function = message.function; wait = message.wait }
 
@@ -42,9 +42,6 @@ spooled_name message = record { stream = message.stream; function = message.func
 
 abbrev pub record_name : Record → Name
 record_name listed = record { stream = listed.stream; function = listed.function; wait = true }
-
-abbrev pub kept_name : KeptPrimary → Name
-kept_name primary = record { stream = primary.stream; function = primary.function; wait = false }
 
 abbrev pub header_name : Header → Name
 header_name header = record { stream = header.stream; function = header.function; wait = header.wait }

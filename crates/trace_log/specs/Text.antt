@@ -14,7 +14,7 @@ use Rattle.trace_log.specs.Log.{Entry, Happening, is_before_change}
 use Rattle.trace_log.specs.Log.Entry.{Noted, Slipped, Ended}
 use Rattle.trace_log.specs.Log.Happening.{EquipmentStarted, HostStarted, Setup, Power, Closed, Sent, Received, Wrote, Comms, Control, Spool, Set, Event, Alarm, Carried, Display, Refused, Storing, Stored, Leaving, Gone, Try, Keeping, Kept, Listing, Listed, Duplicate, Unexpected, Foreign, TooLongBlock, Crowded, DroppedByT4, Failed, TimedOut, Stranger, Dropped, Denied, Discarded, TooLong, Full, Recorded, StepEnded}
 use Rattle.trace_log.specs.declared.names.Cause.{Cause}
-use Rattle.trace_log.specs.Names.{Spooled, cause_text, comms_text, control_text, kept_name, name_text, record_name, spooled_name, system_text, title_of, title_text}
+use Rattle.trace_log.specs.Names.{Spooled, cause_text, comms_text, control_text, message_name, name_text, record_name, spooled_name, system_text, title_of, title_text}
 
 -- the moment and the end
 abbrev pub head_text : ℕ → Side → List ℕ
@@ -66,8 +66,8 @@ happening_text (Stored number) = codes "stored " ++ decimal number
 happening_text (Leaving number cause room_for) = codes "leaving " ++ decimal number ++ codes " " ++ cause_text cause
 happening_text (Gone number) = codes "gone " ++ decimal number
 happening_text (Try number system) = codes "try " ++ decimal number ++ codes " " ++ system_text system
-happening_text (Keeping primary) = codes "keeping " ++ name_text (kept_name primary)
-happening_text (Kept primary) = codes "kept " ++ name_text (kept_name primary)
+happening_text (Keeping primary) = codes "keeping " ++ name_text (message_name primary)
+happening_text (Kept primary) = codes "kept " ++ name_text (message_name primary)
 happening_text (Listing number listed) =
     codes "listing " ++ decimal number ++ codes " " ++ name_text (record_name listed)
 happening_text (Listed number listed) = codes "listed " ++ decimal number
@@ -88,7 +88,7 @@ happening_text (Full name) = codes "full " ++ name_text name
 happening_text (Recorded past) = []
 happening_text StepEnded = []
 
--- a note that stands before no change of the spool's list
+-- a note that stands before no change of a file
 abbrev pub plain : List ℕ → Note
 plain text = record { text = text; before_change = false }
 

@@ -160,7 +160,7 @@ pub fn display_note(alloc: Global, tid: u8, text: &[u8]) -> Result<Note, NoMemor
     body_note(alloc, &head, text)
 }
 
-/// A command of the tool that was refused.
+/// A command of the tool that was refused, or, at a start, a primary that its setup keeps.
 pub fn refused_note(alloc: Global) -> Result<Note, NoMemory>
     ensures { IfOk result (λ note. note ≡ note_of Refused) }
 {
@@ -331,7 +331,7 @@ fn plain_note(alloc: Global, text: &[u8]) -> Result<Note, NoMemory>
     })
 }
 
-// One that stands before a change of the spool's list.
+// One that stands before a change of what its end's file keeps.
 fn change_note(alloc: Global, text: &[u8]) -> Result<Note, NoMemory>
     ensures { IfOk result (λ note. note ≡ record { text = text.now; before_change = true }) }
 {
