@@ -28,7 +28,7 @@ use Rattle.spool_law.specs.Shelf.{Carries, Change, KeepsSpool, MayChange}
 use Rattle.spool_law.specs.Tries.{IsNewest, MayTry}
 use Rattle.spool_delivery.specs.Worked.{plain_policy, reply, report, says}
 use Rattle.spool_delivery.proofs.Examples.{first_number, stands-after, tries-after}
-use Rattle.journal_delivery.specs.Worked.{ListsAgain, ListsInTurn, ListsWhatComes, NeedsListing, answered_first, first_report, host_starts, listed_report, restarted, restarted_moves, tried_first}
+use Rattle.journal_delivery.specs.Worked.{ListsAgain, ListsInItsStep, ListsInTurn, ListsNoneEarly, ListsWhatComes, NeedsListing, answered_first, first_report, host_starts, listed_report, restarted, restarted_moves, tried_first}
 
 -- ---- the law of listing, by scenes
 
@@ -36,12 +36,15 @@ abbrev is_received : Own → Bool
 is_received (ReceivedMessage message) = true
 is_received _ = false
 
+-- what is noted of a listing, and of the end of a step
 abbrev is_listing : Happening → Bool
 is_listing (Happening.Listing number listed) = true
 is_listing (Happening.Listed number listed) = true
+is_listing Happening.StepEnded = true
+is_listing (Happening.Wrote characters) = true
 is_listing _ = false
 
--- it asks something of a message received, of a block that is given, and of what is listed
+-- it asks something of a message received, of a block that is given, and of such a note
 abbrev asks_listed : Side → Kind → Bool
 asks_listed Equipment kind = false
 asks_listed Host (Did (Gives place number block now)) = true
@@ -63,6 +66,8 @@ does-unlisted owed own is = tt
 says-unlisted : (owed : Owed) (what : Happening) → is_listing what ≡ false → MaySayOwed owed what
 says-unlisted owed (Happening.Listing number listed) is = cc
 says-unlisted owed (Happening.Listed number listed) is = cc
+says-unlisted owed Happening.StepEnded is = cc
+says-unlisted owed (Happening.Wrote characters) is = cc
 says-unlisted owed what is = tt
 
 unasked-list : (side : Side) (before : List Move) (kind : Kind) → asks_listed side kind ≡ false
@@ -180,7 +185,7 @@ newest message (inr is) = absurd is
 
 -- ---- the report is listed again
 
-restarted-may : (found : List (ℕ × Record)) (number : ℕ) → all_may (restarted found number) new_play ≡ true
+restarted-may : (found : List (ℕ × Spooled)) (number : ℕ) → all_may (restarted found number) new_play ≡ true
 unfolding block_in is_frame sum_cause
 restarted-may found number = refl
 
@@ -206,7 +211,7 @@ lists-again blocks = record {
   gone = refl;
 }
   where
-    stands : (found : List (ℕ × Record)) (number : ℕ)
+    stands : (found : List (ℕ × Spooled)) (number : ℕ)
         → Stands plans (KeepLaws plans) (played (restarted found number) new_play) (restarted_moves found number)
     stands found number = stands-after blocks (restarted found number) (restarted-may found number)
 
@@ -268,3 +273,13 @@ lists-what-comes = record {
   another = λ keeps. apart 1 2 (omega arith) (ap owed_system keeps.0);
   unbegun = λ keeps. apart 0 1 (omega arith) (sym (ap owed_system keeps.0));
 }
+
+pub lists-in-its-step : ListsInItsStep
+lists-in-its-step = record {
+  in_time = (refl, (refl, (refl, (refl, (refl, tt)))));
+  late = λ keeps. owes-none listed_report keeps.1.1.0;
+  written = λ keeps. owes-none listed_report keeps.1.1.0;
+}
+
+pub lists-none-early : ListsNoneEarly
+lists-none-early = record { without_room = (tt, (tt, tt)); begun = λ none. none.1.0 }

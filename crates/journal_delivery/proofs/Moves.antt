@@ -24,7 +24,7 @@ use Rattle.message_flow.specs.Message.{is_primary}
 use Rattle.trace_log.specs.Delivered.{Delivered}
 use Rattle.trace_log.specs.Log.{Entry, Happening, Journal}
 use Rattle.trace_log.specs.Log.Entry.{Noted}
-use Rattle.trace_log.specs.Names.{Record}
+use Rattle.trace_log.specs.Names.{Record, Spooled}
 use Rattle.spool_law.specs.Listing.{AllStoredAreSpoolable, KeepsListing, MayListAt, MayMoveListing, MaySayOwed, Owed, owed_behind, owed_in, owed_with, record_of}
 use Rattle.spool_law.specs.Listing.Owed.{Nothing, ToHaveListed, ToList}
 use Rattle.spool_law.specs.Shelf.{KeepsSpool, Policy, change_of, received_behind, shelf_of}
@@ -166,7 +166,7 @@ none-some : {X : Type 0} (x : X) → None ≡ Some x → ⊥
 none-some x is = cc
 
 -- what is being listed is found, if anything
-found-owed : (found : List (ℕ × Record)) (owed : Owed) (listed : Record) → found_among found owed ≡ Some listed
+found-owed : (found : List (ℕ × Spooled)) (owed : Owed) (listed : Record) → found_among found owed ≡ Some listed
     → owed_record owed ≡ Some listed
 found-owed found Nothing listed is = is
 found-owed found (ToList other) listed is = absurd (none-some listed is)

@@ -8,7 +8,7 @@ use Rattle.spool_law.specs.Listing.Owed.{Nothing, ToHaveListed, ToList}
 use Rattle.trace_log.specs.Log.{Entry, Happening, Journal, Past}
 use Rattle.trace_log.specs.Log.Entry.{Noted}
 use Rattle.trace_log.specs.Log.Happening.{HostStarted, Listed, Received, Recorded}
-use Rattle.trace_log.specs.Names.{Record}
+use Rattle.trace_log.specs.Names.{Record, Spooled}
 
 -- ---- what the host owes its journal, by its notes in the log
 
@@ -26,13 +26,13 @@ owed_of (entry ∷ before) = owed_after entry (owed_of before)
 
 -- ---- what is listed
 
-abbrev pub has_number : List (ℕ × Record) → ℕ → Bool
+abbrev pub has_number : List (ℕ × Spooled) → ℕ → Bool
 has_number [] number = false
 has_number (one ∷ found) number = if one.0 == number then true else has_number found number
 
 -- what was being listed as the host lost its power is listed where the journal found has its number, and never by what
 -- it says
-abbrev pub found_among : List (ℕ × Record) → Owed → Option Record
+abbrev pub found_among : List (ℕ × Spooled) → Owed → Option Record
 found_among found Nothing = None
 found_among found (ToList listed) = None
 found_among found (ToHaveListed number listed) = if has_number found number then Some listed else None

@@ -8,6 +8,8 @@ use Rattle.line_end.specs.Step.{ack}
 use Rattle.line_end.specs.Step.LineCall.{Tick}
 use Rattle.line_order.specs.Acts.{HasNoSlip}
 use Rattle.line_order.specs.Line.{new_line}
+use Rattle.message_end.specs.Core.{Went}
+use Rattle.message_end.specs.Core.Went.{Spent}
 use Rattle.message_end.specs.Doings.Doing.{Calls}
 use Rattle.message_end.specs.Log.{log_of}
 use Rattle.message_end.specs.Moves.{Kind, Move, deeds_of}
@@ -15,9 +17,11 @@ use Rattle.message_end.specs.Moves.Kind.{Did, Started}
 use Rattle.message_end.specs.Own.Own.{DrewNumber, ReceivedMessage, SentMessage}
 use Rattle.message_flow.specs.declared.message.Message.{Message}
 use Rattle.trace_log.specs.declared.names.Cause.TheVariants as cause
-use Rattle.trace_log.specs.Log.Happening.{EquipmentStarted, Gone, HostStarted, Leaving, Listed, Listing, Power, Stored, Storing, Try}
-use Rattle.trace_log.specs.Names.{Record}
-use Rattle.spool_law.specs.Listing.{AllStoredAreSpoolable, KeepsListing, record_of}
+use Rattle.trace_log.specs.Log.{Happening}
+use Rattle.trace_log.specs.Log.Happening.{EquipmentStarted, Gone, HostStarted, Leaving, Listed, Listing, Power, Received, Sent, StepEnded, Stored, Storing, Try, Wrote}
+use Rattle.trace_log.specs.Names.{Record, Spooled}
+use Rattle.spool_law.specs.Journal.{entry_of}
+use Rattle.spool_law.specs.Listing.{AllStoredAreSpoolable, BeginsNoneEarly, KeepsListing, record_of}
 use Rattle.spool_delivery.specs.Account.{folded, standing_of, taken_of}
 use Rattle.spool_delivery.specs.Claims.{TakenInOrder, equipment_notes}
 use Rattle.spool_delivery.specs.Laws.{IsSpoolTaken, KeepSpoolLaws}
@@ -31,7 +35,7 @@ first_report = sent_report 1 (65 ∷ [])
 abbrev pub listed_report : Record
 listed_report = record_of first_report
 
-abbrev pub host_starts : List (ℕ × Record) → ℕ → Kind
+abbrev pub host_starts : List (ℕ × Spooled) → ℕ → Kind
 host_starts found base = Started (HostStarted (Some (record { found = found; base = base }))) base
 
 -- a report is put into the spool and tried, and the host receives and answers it
@@ -64,7 +68,7 @@ confirms moment =
 -- ---- the host loses its power as it lists a report, and lists it again
 
 -- it finds these records at its start; the equipment's T2 runs out, and it writes the report once more
-abbrev pub restarted : List (ℕ × Record) → ℕ → List Scene
+abbrev pub restarted : List (ℕ × Spooled) → ℕ → List Scene
 restarted found number =
     tried_first
     ++ One Host 4 (says (Listing 0 listed_report))
@@ -78,21 +82,21 @@ restarted found number =
     ∷ One Host 10006 (says (Listed number listed_report))
     ∷ confirms 10007
 
-abbrev pub restarted_moves : List (ℕ × Record) → ℕ → List Move
+abbrev pub restarted_moves : List (ℕ × Spooled) → ℕ → List Move
 restarted_moves found number = moves_after (restarted found number) []
 
-abbrev pub found_record : List (ℕ × Record)
-found_record = (0, listed_report) ∷ []
+abbrev pub found_record : List (ℕ × Spooled)
+found_record = (0, entry_of listed_report) ∷ []
 
 -- whatever it finds all laws hold. Where it finds the number of what it was listing, it has listed the report twice,
 -- which counts once; where it doesn't, once
 pub record ListsAgain : Type 0 where
   pub fits : TimesFit a_plan.times
   pub no_slip :
-      (found : List (ℕ × Record)) (number : ℕ)
+      (found : List (ℕ × Spooled)) (number : ℕ)
       → HasNoSlip (new_line a_plan.times a_plan.times) (deeds_of (restarted_moves found number))
   pub laws :
-      (found : List (ℕ × Record)) (number : ℕ) → KeepJournalLaws plain_policy plans (restarted_moves found number)
+      (found : List (ℕ × Spooled)) (number : ℕ) → KeepJournalLaws plain_policy plans (restarted_moves found number)
   pub received : numbers (taken_of (log_of (restarted_moves found_record 1))) ≡ 0 ∷ 0 ∷ []
   pub listed : numbers (taken_of (listed_log (log_of (restarted_moves found_record 1)))) ≡ 0 ∷ 0 ∷ []
   pub once : numbers (folded (taken_of (listed_log (log_of (restarted_moves found_record 1))))) ≡ 0 ∷ []
@@ -163,3 +167,29 @@ listed_unbegun =
 pub record ListsWhatComes : Type 0 where
   pub another : KeepsListing plans listed_another → ⊥
   pub unbegun : KeepsListing plans listed_unbegun → ⊥
+
+-- ---- a report is listed behind the step in which it was received, or behind the characters of that
+
+abbrev pub host_says : Happening → Scene
+host_says what = One Host 0 (says what)
+
+abbrev pub received_then : List Scene → List Move
+received_then scenes = moves_after (One Host 0 (does (ReceivedMessage first_report)) ∷ scenes) []
+
+abbrev pub lists_it : List Scene
+lists_it = host_says (Listing 0 listed_report) ∷ host_says (Listed 0 listed_report) ∷ []
+
+pub record ListsInItsStep : Type 0 where
+  pub in_time :
+      KeepsListing plans (received_then (lists_it ++ host_says StepEnded ∷ host_says (Wrote (6 ∷ [])) ∷ []))
+  pub late : KeepsListing plans (received_then (host_says StepEnded ∷ lists_it)) → ⊥
+  pub written : KeepsListing plans (received_then (host_says (Wrote (6 ∷ [])) ∷ lists_it)) → ⊥
+
+-- ---- a step ends early, for a record without room or for one that is on its way into the journal
+
+abbrev pub ends_early : List Happening → Went (Unit {0}) Happening
+ends_early notes = Spent (record { next = tt; notes = notes; written = [] })
+
+pub record ListsNoneEarly : Type 0 where
+  pub without_room : BeginsNoneEarly (ends_early (Received first_report ∷ Sent (reply 1) ∷ []))
+  pub begun : BeginsNoneEarly (ends_early (Received first_report ∷ Listing 0 listed_report ∷ [])) → ⊥

@@ -3,4 +3,4 @@
 
 mod laws;
 
-pub use laws::{journal_is_taken_in_order, worked_journals};
+pub use laws::{journal_is_taken_in_order, worked_journals, worked_notes};

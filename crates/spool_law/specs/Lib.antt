@@ -1,3 +1,4 @@
+pub mod Journal
 pub mod Listing
 pub mod Shelf
 pub mod Tries

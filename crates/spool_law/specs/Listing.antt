@@ -1,10 +1,13 @@
--- What a host owes its journal, over its doings: which messages it lists there, and what waits for that; and what an
--- equipment owes for it: it puts no other messages into its spool.
+-- What a host owes its journal, over its doings: which messages it lists there, in which step, and what waits for that;
+-- and what an equipment owes for it: it puts no other messages into its spool.
 use Rattle.std.specs.Prelude.{◌≡◌, ℕ, true, List, [], ◌∷◌, Option, Some, None, if◌then◌else◌}
 use Rattle.gl_base.specs.declared.side.Side.{Side}
 use Rattle.gl_base.specs.declared.side.Side.TheVariants.{Equipment, Host}
+use Rattle.message_end.specs.Core.{Went}
+use Rattle.message_end.specs.Core.Went.{Goes, Spent}
 use Rattle.message_end.specs.Doings.{Doing}
 use Rattle.message_end.specs.Doings.Doing.{Calls, Does, Gives, Says}
+use Rattle.message_end.specs.Ends.{Input, Machine}
 use Rattle.message_end.specs.Log.{noted_of}
 use Rattle.message_end.specs.Moves.{Kind, LinePlans, Move, run_at}
 use Rattle.message_end.specs.Moves.Kind.{Added, Changed, Did, Lost, Started}
@@ -13,7 +16,7 @@ use Rattle.message_end.specs.Own.Own.{ReceivedMessage}
 use Rattle.message_flow.specs.declared.message.Message.{Message}
 use Rattle.spool_rule.specs.Rule.{is_spoolable}
 use Rattle.trace_log.specs.Log.{Happening}
-use Rattle.trace_log.specs.Log.Happening.{HostStarted, Listed, Listing, Received, Storing}
+use Rattle.trace_log.specs.Log.Happening.{HostStarted, Listed, Listing, Received, StepEnded, Storing, Wrote}
 use Rattle.trace_log.specs.Names.{Record}
 
 -- what is put into the spool is S5F1, S6F11 or S10F1 (this profile)
@@ -68,10 +71,13 @@ MayDoOwed owed _ = Unit {0}
 abbrev pub MaySayOwed : Owed → Happening → Type 0
 MaySayOwed owed (Listing number listed) = owed ≡ ToList listed
 MaySayOwed owed (Listed number listed) = owed ≡ ToHaveListed number listed
+MaySayOwed owed StepEnded = owed ≡ Nothing
+MaySayOwed owed (Wrote characters) = owed ≡ Nothing
 MaySayOwed owed _ = Unit {0}
 
--- while a message isn't listed none is received, and no block is given to the line: so its reply goes out behind it.
--- What is being listed was received last, and has been listed before another one is
+-- while a message isn't listed none is received, and no block is given to the line: so its reply goes out behind it. It
+-- is listed in the step in which it was received, before the characters of that are sent. What is being listed was
+-- received last, and has been listed before another one is
 abbrev pub MayDoListing : Owed → Doing → Type 0
 MayDoListing owed (Does own) = MayDoOwed owed own
 MayDoListing owed (Gives place number block now) = owed ≡ Nothing
@@ -93,3 +99,24 @@ MayListAt Host plans before kind = MayMoveListing (run_at Host plans before).doi
 abbrev pub KeepsListing : LinePlans → List Move → Type 0
 KeepsListing plans [] = Unit {0}
 KeepsListing plans (move ∷ before) = MayListAt move.side plans before move.kind × KeepsListing plans before
+
+-- ---- a step that ends early
+
+abbrev pub IsNoListing : Happening → Type 0
+IsNoListing (Listing number listed) = ⊥
+IsNoListing _ = Unit {0}
+
+abbrev pub ListNothing : List Happening → Type 0
+ListNothing [] = Unit {0}
+ListNothing (what ∷ rest) = IsNoListing what × ListNothing rest
+
+-- a step of a host that ends early, since its journal lacks room or since numbers are lacking, has begun to list
+-- nothing
+abbrev pub BeginsNoneEarly : {S : Type 0} → Went S Happening → Type 0
+BeginsNoneEarly (Goes step) = Unit {0}
+BeginsNoneEarly (Spent step) = ListNothing step.notes
+
+-- in whatever state and whatever it is given
+abbrev pub NeverListsEarly : {S C : Type 0} → Machine S C → Type 0
+NeverListsEarly {S} {C} machine =
+    (s : S) (input : Input C) (now : ℕ) → BeginsNoneEarly (machine.act s input now)

@@ -237,3 +237,20 @@ MayChange policy notes Other = Unit {0}
 abbrev pub KeepsSpool : Policy → List Happening → Type 0
 KeepsSpool policy [] = Unit {0}
 KeepsSpool policy (what ∷ before) = MayChange policy before (change_of what) × KeepsSpool policy before
+
+-- ---- over a file of an earlier run
+
+-- the first of all notes is a start that finds these messages; each later one agrees with all before it
+abbrev pub StartsWith : List (ℕ × Spooled) → Change → Type 0
+StartsWith held (Finds found) = found ≡ held
+StartsWith held _ = ⊥
+
+abbrev pub MayFollow : Policy → List (ℕ × Spooled) → List Happening → Change → Type 0
+MayFollow policy held [] change = StartsWith held change
+MayFollow policy held (newest ∷ before) change = MayChange policy (newest ∷ before) change
+
+-- the law of the notes, over a file that held these messages before the first of them (this profile)
+abbrev pub KeepsSpoolFrom : Policy → List (ℕ × Spooled) → List Happening → Type 0
+KeepsSpoolFrom policy held [] = Unit {0}
+KeepsSpoolFrom policy held (what ∷ before) =
+    MayFollow policy held before (change_of what) × KeepsSpoolFrom policy held before
