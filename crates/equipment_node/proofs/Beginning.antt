@@ -111,18 +111,8 @@ found-long [] = refl
 found-long (message ∷ list) = ap suc (found-long list)
 
 -- a file of version 2 is that of version 2
-abbrev with_version : ℕ → SpoolFile → SpoolFile
-with_version version file = record {
-  version = version;
-  slots = file.slots;
-  gates = file.gates;
-  mark = file.mark;
-  floor = file.floor;
-  list = file.list;
-}
-
 two-up : (file : SpoolFile) → file.version ≡ 2 → file ≡ upgraded file
-two-up file two = ap (λ (n : ℕ). with_version n file) two
+two-up file two = ap (λ (n : ℕ). record file { version = n }) two
 
 -- amid the moving of its mark there is the file with one mark or the other
 marked-as : (st : Standing) (image : List ℕ) → st.file.version ≡ 2 → IsMarked st image → HasMark st.file image

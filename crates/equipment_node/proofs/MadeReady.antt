@@ -53,16 +53,6 @@ begun-before members old new xs ys is = record {
   made = is.made;
 }
 
-abbrev with_version : ℕ → SpoolFile → SpoolFile
-with_version version file = record {
-  version = version;
-  slots = file.slots;
-  gates = file.gates;
-  mark = file.mark;
-  floor = file.floor;
-  list = file.list;
-}
-
 -- the calls that make a file of this version one of version 2
 abbrev upgrades-by : ℕ → List DiskCall
 upgrades-by version = if version == 1 then upgrade_calls else []
@@ -265,7 +255,7 @@ module _ {D : Type 0} (members : disk.Ghosts D) (v : SpoolView D)
               go (inl (two, same)) = (
                 s,
                 there (ap (λ (x : SpoolView D). members.told x.disk) same ∙ told-there s told),
-                ap (λ (n : ℕ). with_version n (file_in s.now.bytes))
+                ap (λ (n : ℕ). record (file_in s.now.bytes) { version = n })
                     (sym (version-there s told ∙ sym same-version ∙ two)),
               )
               go (inr (one, ups)) =

@@ -89,7 +89,7 @@ module _ {D : Type 0} (members : disk.Ghosts D) where
           subst
           (λ (went : Went EquipmentView Happening). OnStart (HasStarted (end_plan plan) (DidOf plan) 0) went)
           goes law.starts in
-          record { plan = plan; fits = fits; base = start.base; doings = []; did = start.is }
+          record { plan = plan; fits = fits; base = start.base; doings = start.said; did = start.is }
 
       pub start-in : AllCanBeSent file.list → IsIn members h
       start-in can = record {

@@ -20,7 +20,6 @@ ghost use Rattle.equipment_node.specs.MadeReady.{MakesReady, UpgradesOnce, ready
 ghost use Rattle.equipment_node.specs.StartCalls.{CallsInStart, StartMoves, reserve_calls};
 ghost use Rattle.equipment_node.specs.StartOver.{IsFresh, KeepsSure, StartsOver, StartsWith};
 ghost use Rattle.equipment_node.specs.StartSizes.{AreSizes};
-ghost use Rattle.equipment_node.specs.Stepping.{IsTold};
 ghost use Rattle.tool_step.specs.Losses.{losses};
 ghost use Rattle.tool_step.specs.Step.{deadline_of};
 

@@ -17,7 +17,7 @@ use Rattle.trace_log.specs.declared.names.Cause.TheVariants.{Overwritten}
 use Rattle.spool_ledger.specs.Ledger.{Booked, IsLedger, IsSome, LedgerView, Numbered, and_then, confirmed_of, decided_count, is_full, new_ledger, next_of, owed, quiet, room_for, size_of, stood_count}
 use Rattle.spool_ledger.specs.Sizes.{AreSizedBy, IsSizedBy, all_sizes_after, oldest_of, sizes_after}
 use Rattle.spool_ledger.specs.Storing.{oldest_out, room_made, stored, unstored, with_room}
-use Rattle.spool_ledger.proofs.Limits.{full_within, fits_within, is-below, none-below, not-below, over_never, room_within, within_short}
+use Rattle.spool_ledger.proofs.Limits.{full_within, fits_within, is-below, none-below, over_never, room_within, within_short}
 
 -- ---- sizes
 

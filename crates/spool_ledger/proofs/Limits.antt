@@ -6,7 +6,7 @@ use Rattle.gem_spool.specs.Spool.{room_by}
 use Rattle.gem_spool.specs.declared.count.Count.{Count}
 use Rattle.gem_spool.specs.declared.spool.Room.TheVariants as room
 use Rattle.spool_file.specs.Sizes.{is_too_long, slots_for}
-use Rattle.spool_ledger.specs.Ledger.{LedgerView, decided_count, is_full, next_of, room_for}
+use Rattle.spool_ledger.specs.Ledger.{LedgerView, decided_count, is_full, room_for}
 
 pub not-below : (m n : ℕ) → nat_lt m n ≡ false → n ≤ m
 not-below m n over = grind (arith, nat_tests, over)

@@ -1,5 +1,5 @@
 -- The widths of a list's messages are their sizes, by which works find their messages.
-use Rattle.std.proofs.Common.{◌≡◌, refl, sym, ap, subst, arith, ◌+◌, ℕ, List, [], ◌∷◌, ◌++◌, drop, length}
+use Rattle.std.proofs.Common.{◌≡◌, refl, sym, ap, subst, arith, ℕ, List, [], ◌∷◌, ◌++◌, drop, length}
 use Rattle.std.proofs.lemmas.List.Elements.{All-cons, All-nil}
 use Rattle.std.proofs.lemmas.List.Sums.{sum_by-cons}
 use Rattle.std.specs.Prelude.{All, map, sum, sum_by}
@@ -9,7 +9,7 @@ use Rattle.gem_spool.specs.declared.works.Work.TheVariants as work
 use Rattle.spool_file.proofs.Runs.{some_width}
 use Rattle.spool_file.specs.Slot.{Message, width}
 use Rattle.spool_ledger.specs.Ledger.{IsSome}
-use Rattle.spool_ledger.specs.Sizes.{AreSizedBy, IsSizedBy, oldest_of, sizes_after}
+use Rattle.spool_ledger.specs.Sizes.{AreSizedBy, IsSizedBy, sizes_after}
 
 pub widths-last : (list : List Message) (m : Message) → map width (list ++ m ∷ []) ≡ map width list ++ width m ∷ []
 widths-last [] m = refl

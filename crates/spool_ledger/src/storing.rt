@@ -23,7 +23,7 @@ impl Ledger {
     /// spool the oldest messages leave, one by one, until there is room, where the spool `overwrites`; where it doesn't
     /// the primary is discarded. One that is too long is noted, and removes none.
     ///
-    /// `NumbersSpent` exactly where it isn't too long and the next number would be 2^63, and then nothing changes.
+    /// `NumbersSpent` exactly where it isn't too long and the next number would pass 2^63, and then nothing changes.
     pub fn store(
         &mut self,
         alloc: Global,

@@ -21,7 +21,7 @@ use Rattle.spool_show.specs.declared.spool_end.SpoolEnd.TheVariants as end
 use Rattle.spool_file.specs.Added.{OnlyAdds, WritesOrSyncs}
 use Rattle.spool_file.specs.File.{file_in}
 use Rattle.spool_file.specs.Reads.{most_reads}
-use Rattle.spool_file.specs.Slot.{slot_place}
+use Rattle.spool_file.specs.Setup.{area_end}
 use Rattle.spool_file.specs.declared.recovery.Known.{Known}
 use Rattle.spool_file.proofs.Added.{adds_as, adds_behind, adds_done, adds_failed}
 use Rattle.spool_slots.specs.Changes.{HasRecovered, Recovers}
@@ -162,39 +162,39 @@ has_file name before end.WriteFailed is same = same ∙ is
 has_file name before end.DiskFailed is same = inr (same ∙ is)
 
 behind_done : (a b c : DiskHealth) (slots : ℕ) → IsUsed a b 1 0
-    → IsUsed b c (slots + 2) (slots + 4096) → IsUsed a c (slots + 3) (slots + 4096)
+    → IsUsed b c (slots + 34) (slots + 528384) → IsUsed a c (slots + 35) (slots + 528384)
 behind_done a b c slots first more =
-    used_behind a b 1 0 first c (slots + 2) (slots + 4096) (slots + 3) (slots + 4096) (omega arith) (omega arith) more
+    used_behind a b 1 0 first c (slots + 34) (slots + 528384) (slots + 35) (slots + 528384) (omega arith) (omega arith) more
 
 -- a disk that has taken its file was asked for what making it takes
 pub cause_behind : (a b c : DiskHealth) (slots size : ℕ) (e : SpoolEnd) → IsUsed a b 1 0
-    → HasCause b c (slots + 2) (slots + 4096) (b.room < slots + 4096) (answer_by e)
-    → HasCause a c (slots + 3) (slots + 4096) (LacksRoom slots size a) (answer_by e)
+    → HasCause b c (slots + 34) (slots + 528384) (b.room < slots + 528384) (answer_by e)
+    → HasCause a c (slots + 35) (slots + 528384) (LacksRoom slots size a) (answer_by e)
 cause_behind a b c slots size end.Done first more = behind_done a b c slots first more
 cause_behind a b c slots size (end.NotSpool place) first more = behind_done a b c slots first more
 cause_behind a b c slots size end.WriteFailed first more = behind_done a b c slots first more
 cause_behind a b c slots size end.DiskFailed first more =
-    fault_behind a b 1 0 first c (slots + 2) (slots + 3) (b.room < slots + 4096) (LacksRoom slots size a) (omega arith)
+    fault_behind a b 1 0 first c (slots + 34) (slots + 35) (b.room < slots + 528384) (LacksRoom slots size a) (omega arith)
     (λ less. inr (omega (arith, less, first.room_left))) more
 
 -- and one that hasn't taken it has fewer bytes, where no call of it was to fail
-pub unattached : (a b : DiskHealth) (slots size : ℕ) {need : ℕ} → need ≡ slot_place slots
+pub unattached : (a b : DiskHealth) (slots size : ℕ) {need : ℕ} → need ≡ area_end slots
     → HasCause a b 1 0 (size < need) answer.Failed
-    → HasCause a b (slots + 3) (slots + 4096) (LacksRoom slots size a) answer.Failed
+    → HasCause a b (slots + 35) (slots + 528384) (LacksRoom slots size a) answer.Failed
 unattached a b slots size {need} is more =
-    fault_wider a b 1 (slots + 3) (size < need) (LacksRoom slots size a) (omega arith)
+    fault_wider a b 1 (slots + 35) (size < need) (LacksRoom slots size a) (omega arith)
     (λ less. inl (subst (λ n. size < n) is less)) more
 
 -- it was asked for the size of the file, and for no bytes behind that
-pub asks_making : {k l m : Option (List DiskCall)} (slots : ℕ) {need : ℕ} → need ≡ slot_place slots
+pub asks_making : {k l m : Option (List DiskCall)} (slots : ℕ) {need : ℕ} → need ≡ area_end slots
     → l ≡ with_call (attach_call need answer.Done) k → OnlyAdds WritesOrSyncs l m
-    → OnlyAdds (AsksForSize (slot_place slots)) k m
+    → OnlyAdds (AsksForSize (area_end slots)) k m
 asks_making slots {need} is listed adds =
-    adds_behind (AsksForSize (slot_place slots))
-    (adds_done (AsksForSize (slot_place slots)) (attach_call need answer.Done) (inl (refl, is)) listed)
-    (adds_as WritesOrSyncs (AsksForSize (slot_place slots)) (λ call one. inr one) adds)
+    adds_behind (AsksForSize (area_end slots))
+    (adds_done (AsksForSize (area_end slots)) (attach_call need answer.Done) (inl (refl, is)) listed)
+    (adds_as WritesOrSyncs (AsksForSize (area_end slots)) (λ call one. inr one) adds)
 
-pub asks_failed : {Crowded : Type 0} {k l : Option (List DiskCall)} (slots : ℕ) {need : ℕ} → need ≡ slot_place slots
-    → Logs (attach_call need) Crowded k l answer.Failed → OnlyAdds (AsksForSize (slot_place slots)) k l
+pub asks_failed : {Crowded : Type 0} {k l : Option (List DiskCall)} (slots : ℕ) {need : ℕ} → need ≡ area_end slots
+    → Logs (attach_call need) Crowded k l answer.Failed → OnlyAdds (AsksForSize (area_end slots)) k l
 asks_failed slots {need} is logs =
-    adds_failed (AsksForSize (slot_place slots)) (attach_call need answer.Failed) (inl (refl, is)) logs
+    adds_failed (AsksForSize (area_end slots)) (attach_call need answer.Failed) (inl (refl, is)) logs

@@ -16,7 +16,7 @@ use Rattle.spool_show.specs.declared.spool_end.SpoolEnd.{SpoolEnd}
 use Rattle.spool_show.specs.declared.spool_end.SpoolEnd.TheVariants.{Done, DiskFailed, WriteFailed}
 use Rattle.spool_file.specs.Added.{OnlyAdds, WritesOrSyncs}
 use Rattle.spool_file.specs.Format.{StandsEmpty}
-use Rattle.spool_file.specs.Slot.{slot_place}
+use Rattle.spool_file.specs.Setup.{area_end}
 use Rattle.spool_slots.specs.declared.states.Formatting.{Formatting}
 use Rattle.spool_slots.specs.declared.states.Formatting.TheVariants as formatting
 
@@ -45,12 +45,13 @@ answer_by _ = answer.Done
 
 -- a disk lacks what making the file takes: the bytes of the file, or room for those that are written
 abbrev pub LacksRoom : ℕ → ℕ → DiskHealth → Type 0
-LacksRoom slots size health = (size < slot_place slots) ⊎ (health.room < slots + 4096)
+LacksRoom slots size health = (size < area_end slots) ⊎ (health.room < slots + 528384)
 
--- an attaching, a page, a byte a slot and a sync: no other call is made. The disk fails where one of these is to fail,
--- where there is no room for them, or where it has fewer bytes than the file; with none of these it doesn't
+-- an attaching, a page, a byte a slot, an area in 32 parts and a sync: no other call is made. The disk fails where one
+-- of these is to fail, where there is no room for them, or where it has fewer bytes than the file; with none of these
+-- it doesn't
 abbrev pub FailsByCause : ℕ → DiskTold → SpoolEnd → Type 0
-FailsByCause slots disk end = HasCause disk.health disk.health_after (slots + 3) (slots + 4096)
+FailsByCause slots disk end = HasCause disk.health disk.health_after (slots + 35) (slots + 528384)
     (LacksRoom slots disk.size disk.health) (answer_by end)
 
 -- an attaching that asks for this size and no other, or a call that makes the file
@@ -63,4 +64,4 @@ pub record FormatsSpool (name : List ℕ) (slots : ℕ) (disk : DiskTold) (out :
   pub made : MakesSpool slots disk.after out end
   pub tells : TellsAsBefore disk.before disk.after
   pub cause : FailsByCause slots disk end
-  pub asks : OnlyAdds (AsksForSize (slot_place slots)) disk.calls disk.calls_after
+  pub asks : OnlyAdds (AsksForSize (area_end slots)) disk.calls disk.calls_after

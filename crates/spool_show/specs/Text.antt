@@ -3,7 +3,8 @@ use Rattle.std.specs.Prelude.{ℕ, true, List, ◌++◌, length, take, drop, cod
 use Rattle.std.specs.List.{flat_map}
 use Rattle.short_text.specs.Name.{name_of}
 use Rattle.spool_file.specs.File.{SpoolFile}
-use Rattle.spool_file.specs.Slot.{Message, slot_place}
+use Rattle.spool_file.specs.Setup.{area_end}
+use Rattle.spool_file.specs.Slot.{Message}
 use Rattle.spool_file.specs.declared.slot.SlotHead.{SlotHead}
 use Rattle.trace_log.specs.Text.{body_text}
 
@@ -43,4 +44,4 @@ file_text file = head_line file.slots file.mark.value (length file.list) ++ mess
 -- what is written of a new file: how many slots and bytes it takes
 abbrev pub formatted_line : ℕ → List ℕ
 formatted_line slots =
-    count_text (codes "formatted slots=") slots ++ count_text (codes " bytes=") (slot_place slots) ++ codes "\n"
+    count_text (codes "formatted slots=") slots ++ count_text (codes " bytes=") (area_end slots) ++ codes "\n"

@@ -8,7 +8,7 @@ ghost use Rattle.trace_log.specs.Text.{body_text};
 
 use arrayvec::ArrayVec;
 use short_text::{put, put_hex, put_name, put_number};
-use spool_file::{SLOT_SIZE, SlotHead, slot_place};
+use spool_file::{SLOT_SIZE, SlotHead, area_end};
 
 /// How much of a line is put at once, at most.
 pub const LINE: usize = 8300;
@@ -37,7 +37,7 @@ pub fn formatted_line(slots: u32) -> Short
 {
     let mut line = Short::new();
     put_count(&mut line, b"formatted slots=", u64::from(slots));
-    put_count(&mut line, b" bytes=", slot_place(slots));
+    put_count(&mut line, b" bytes=", area_end(slots));
     put(&mut line, b"\n");
     line
 }

@@ -9,13 +9,13 @@ ghost use Rattle.spool_show.specs.Formatting.{answer_by, unformatted_disk};
 ghost use Rattle.spool_show.specs.Told.{disk_told};
 ghost use Rattle.spool_file.specs.Added.{OnlyAdds, WritesOrSyncs};
 ghost use Rattle.spool_file.specs.Format.{StandsEmpty};
-ghost use Rattle.spool_file.specs.Slot.{slot_place};
+ghost use Rattle.spool_file.specs.Setup.{area_end};
 
 use crate::lines::formatted_line;
 use crate::spool_end::SpoolEnd;
 use disk_base::{Disk, DiskAnswer};
 use gl_base::{Sink, SinkAnswer, copy_out};
-use spool_file::slot_place;
+use spool_file::area_end;
 use spool_slots::{Formatting, Raw};
 
 /// Makes the file of this name the spool file of an empty list in so many slots, with mark 0, and writes how many slots
@@ -26,7 +26,7 @@ pub fn format_spool<D: Disk, W: Sink>(disk: &mut D, file: &str, slots: u32, out:
     ensures { FormatsSpool file.now slots (disk_told D.Disk disk.old disk.new) (sink_told W.Sink out.old out.new)
         result }
 {
-    match disk.attach(file, slot_place(slots)) {
+    match disk.attach(file, area_end(slots)) {
         DiskAnswer::Done => format_attached(disk, slots, out),
         DiskAnswer::Failed => SpoolEnd::DiskFailed,
     }
@@ -36,10 +36,10 @@ pub fn format_spool<D: Disk, W: Sink>(disk: &mut D, file: &str, slots: u32, out:
 fn format_attached<D: Disk, W: Sink>(disk: &mut D, slots: u32, out: &mut W) -> SpoolEnd
     requires some { 1 ≤ slots }
     requires most { slots ≤ 65535 }
-    requires size { slot_place slots ≤ D.size_is disk.old }
+    requires size { area_end slots ≤ D.size_is disk.old }
     ensures made { MakesSpool slots (D.told disk.new) (sink_told W.Sink out.old out.new) result }
-    ensures cause { HasCause (D.health disk.old) (D.health disk.new) (slots + 2) (slots + 4096)
-        ((D.health disk.old).room < slots + 4096) (answer_by result) }
+    ensures cause { HasCause (D.health disk.old) (D.health disk.new) (slots + 34) (slots + 528384)
+        ((D.health disk.old).room < slots + 528384) (answer_by result) }
     ensures file { D.file_is disk.new ≡ D.file_is disk.old }
     ensures tells { TellsAsBefore (D.told disk.old) (D.told disk.new) }
     ensures calls { OnlyAdds WritesOrSyncs (D.calls disk.old) (D.calls disk.new) }
@@ -54,10 +54,10 @@ fn format_attached<D: Disk, W: Sink>(disk: &mut D, slots: u32, out: &mut W) -> S
 fn make_file<D: Disk>(disk: &mut D, slots: u32) -> DiskAnswer
     requires some { 1 ≤ slots }
     requires most { slots ≤ 65535 }
-    requires size { slot_place slots ≤ D.size_is disk.old }
+    requires size { area_end slots ≤ D.size_is disk.old }
     ensures stands { StandsEmpty (D.told disk.new) slots result }
-    ensures cause { HasCause (D.health disk.old) (D.health disk.new) (slots + 2) (slots + 4096)
-        ((D.health disk.old).room < slots + 4096) result }
+    ensures cause { HasCause (D.health disk.old) (D.health disk.new) (slots + 34) (slots + 528384)
+        ((D.health disk.old).room < slots + 528384) result }
     ensures file { D.file_is disk.new ≡ D.file_is disk.old }
     ensures tells { TellsAsBefore (D.told disk.old) (D.told disk.new) }
     ensures calls { OnlyAdds WritesOrSyncs (D.calls disk.old) (D.calls disk.new) }

@@ -1,5 +1,5 @@
 -- Calls of the disk that can be followed by hand, what is kept behind them, and what a loss leaves at each.
-use Rattle.std.specs.Prelude.{◌≡◌, ℕ, Bool, true, false, List, [], ◌∷◌, ◌++◌, length, map, replicate}
+use Rattle.std.specs.Prelude.{◌≡◌, ℕ, Bool, true, false, List, [], ◌∷◌, ◌++◌, length, map, replicate, Some}
 use Rattle.disk_base.specs.Calls.{DiskCall}
 use Rattle.disk_base.specs.declared.cut.CutChoice.{CutChoice}
 use Rattle.disk_base.specs.declared.cut.CutChoice.TheVariants.{Fill, First, New, Old}
@@ -35,6 +35,7 @@ file_with gates list = record {
   gates = gates;
   mark = second_copy 4096;
   floor = first_copy 0;
+  setup = record { cell = first_copy 0; bytes = Some [] };
   list = list;
 }
 

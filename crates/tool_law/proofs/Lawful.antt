@@ -1,5 +1,5 @@
 -- That the equipment keeps the law of an end.
-use Rattle.std.proofs.Common.{append_assoc, ◌⊎◌, inl, inr, ◌≡◌, ◌≢◌, ◌+◌, refl, sym, ap, subst, ◌∙◌, arith, Bool, true, false, not, ℕ, ◌≤◌, ◌==◌, List, [], ◌∷◌, ◌++◌, length, replicate, Option, Some, None, if◌then◌else◌, zero, suc}
+use Rattle.std.proofs.Common.{append_assoc, ◌⊎◌, inl, inr, ◌≡◌, ◌≢◌, ◌+◌, refl, sym, ap, subst, ◌∙◌, arith, Bool, true, false, not, ℕ, ◌≤◌, ◌==◌, List, [], ◌∷◌, ◌++◌, replicate, Option, Some, None, if◌then◌else◌, zero, suc}
 use Rattle.std.specs.Option.{option_map}
 use Rattle.std.proofs.Math.Nat.{le_trans}
 use Rattle.std.specs.Prelude.{IfSome, map, slice_get}
@@ -13,7 +13,7 @@ use Rattle.trace_log.specs.Log.{Happening, is_before_change}
 use Rattle.trace_log.specs.Names.{Spooled}
 use Rattle.trace_log.specs.declared.commands.ToolCommand.{ToolCommand}
 use Rattle.trace_log.specs.declared.names.CommsName.TheVariants as comms_name
-use Rattle.transact.specs.Numbers.{IsNumbers, NumbersView, next_number, numbers_from}
+use Rattle.transact.specs.Numbers.{IsNumbers, next_number, numbers_from}
 use Rattle.message_end.specs.Calls.{dropped_now, failed_at, took_at}
 use Rattle.message_end.specs.Core.{EndView, IsText, Step, Went, and_then, at_first, carried, draws, noted, sends, step_in}
 use Rattle.message_end.specs.Core.Went.{Goes, Spent}
@@ -423,9 +423,11 @@ module _ (plan : EquipmentPlan) (fits : EquipmentPlanFits plan) where
           record {
             base = file.mark.value;
             note = Happening.EquipmentStarted (found_in file.list) file.mark.value;
+            said = [];
             is = started-at file can is;
             above = above;
             of_side = of_equipment (found_in file.list) file.mark.value;
+            of_start = tt;
             notes = refl;
             written = refl;
           }
@@ -437,11 +439,8 @@ module _ (plan : EquipmentPlan) (fits : EquipmentPlanFits plan) where
       go (starts plan s.file) (starts-at s.file s.file.mark.value did.sound.list (omega arith))
       (ap (λ (p : EquipmentPlan). starts p s.file) (sym did.sound.own.plan_is))
     where
-      numbers : NumbersView
-      numbers = s.node.core.numbers
-
-      under : numbers.next ≤ s.file.mark.value
-      under = subst (λ (mark : ℕ). numbers.next ≤ mark) did.sound.mark did.is.core.numbers.left.ordered
+      under : s.node.core.numbers.next ≤ s.file.mark.value
+      under = subst (λ (mark : ℕ). s.node.core.numbers.next ≤ mark) did.sound.mark did.is.core.numbers.left.ordered
 
       go : (went : Went EquipmentView Happening)
           → OnStart (HasStarted (end_plan plan) (DidOf plan) s.file.mark.value) went

@@ -1,8 +1,7 @@
 -- That the ledger of the spool stays good, and notes what no law of messages speaks of.
-use Rattle.std.proofs.Common.{◌≡◌, refl, arith, Bool, true, false, not, ℕ, ◌+◌, ◌^◌, ◌&&◌, ◌||◌, ◌==◌, ◌≤◌, nat_le, nat_lt, List, [], ◌∷◌, ◌++◌, All, Option, Some, None, if◌then◌else◌, length}
+use Rattle.std.proofs.Common.{◌≡◌, refl, Bool, true, false, not, ℕ, ◌&&◌, ◌==◌, ◌≤◌, List, [], ◌∷◌, ◌++◌, All, Option, Some, None, if◌then◌else◌, length}
 use Rattle.std.specs.Option.{option_map, option_map_or}
 use Rattle.std.specs.Prelude.{IfSome, is_none}
-use Rattle.std.proofs.lemmas.Bool.Decides.{nat_tests}
 use Rattle.std.proofs.lemmas.List.Elements.{All-nil, All-cons, All-head, All-tail}
 use Rattle.gem_spool.specs.declared.spool.Room.{Room}
 use Rattle.gem_spool.specs.declared.spool.Room.TheVariants as room

@@ -7,7 +7,7 @@ use Rattle.gem_spool.specs.declared.count.Count.{Count}
 use Rattle.gem_spool.specs.declared.works.Work.{Work}
 use Rattle.message_end.specs.Course.{noted_behind}
 use Rattle.message_end.proofs.Growing.{behind-both}
-use Rattle.spool_law.specs.Shelf.{Change, Shelf, change_of, shelf_of}
+use Rattle.spool_law.specs.Shelf.{Change, Shelf, shelf_of}
 use Rattle.spool_ledger.specs.Ledger.{IsLedger, LedgerView, next_of, owed, stood_count}
 use Rattle.spool_ledger.specs.Ledger.{Numbered}
 use Rattle.spool_file.specs.Slot.{Message}
@@ -20,15 +20,6 @@ use Rattle.spool_works.specs.WorkLosses.{MayLeaveAt, storing_at}
 
 -- ---- lines before a change
 
-abbrev is_change : Change → Bool
-is_change (Change.Stores number message) = true
-is_change (Change.Leaves number why room_for) = true
-is_change _ = false
-
-before-change : (what : Happening) → is_before_change what ≡ is_change (change_of what)
-before-change (Happening.Storing number message) = refl
-before-change what = refl
-
 -- what leaves the messages that stand as they are
 abbrev pub LeavesStanding : Change → Type 0
 LeavesStanding (Change.Tries number system) = Unit {0}
@@ -36,20 +27,6 @@ LeavesStanding (Change.Sends message) = Unit {0}
 LeavesStanding (Change.Receives message) = Unit {0}
 LeavesStanding Change.Other = Unit {0}
 LeavesStanding _ = ⊥
-
-pub quiet-change : (what : Happening) → LeavesStanding (change_of what) → is_before_change what ≡ false
-quiet-change what leaves = before-change what ∙ go (change_of what) leaves
-  where
-    go : (change : Change) → LeavesStanding change → is_change change ≡ false
-    go (Change.Tries number system) leaves = refl
-    go (Change.Sends message) leaves = refl
-    go (Change.Receives message) leaves = refl
-    go Change.Other leaves = refl
-    go (Change.Finds found) leaves = absurd leaves
-    go (Change.Stores number message) leaves = absurd leaves
-    go (Change.HasStored number) leaves = absurd leaves
-    go (Change.Leaves number why room_for) leaves = absurd leaves
-    go (Change.HasGone number) leaves = absurd leaves
 
 abbrev pub has_change : List Happening → Bool
 has_change [] = false

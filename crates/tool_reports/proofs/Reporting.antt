@@ -6,7 +6,7 @@ use Rattle.spool_ledger.specs.Ledger.{LedgerView, carried_out, new_ledger}
 use Rattle.spool_file.specs.File.{SpoolFile}
 use Rattle.tool_step.specs.Grants.{GrantView}
 use Rattle.tool_step.specs.Live.{ReportView}
-use Rattle.std.proofs.Common.{◌≡◌, refl, sym, ap, subst, ◌∙◌, ◌%◌, ◌==◌, length, arith, Bool, true, false, ℕ, List, [], ◌∷◌, Option, Some, None, if◌then◌else◌}
+use Rattle.std.proofs.Common.{◌≡◌, refl, sym, ap, subst, ◌∙◌, ◌%◌, ◌==◌, arith, Bool, true, false, ℕ, List, [], ◌∷◌, Option, Some, None, if◌then◌else◌}
 use Rattle.disk_base.specs.declared.cut.CutChoice.{CutChoice}
 use Rattle.trace_log.specs.declared.commands.ToolCommand.{ToolCommand}
 use Rattle.trace_log.specs.Log.{Happening}

@@ -19,7 +19,7 @@ use Rattle.message_flow.specs.Assembly.{flow_to, header_so_far, with_block}
 use Rattle.message_flow.specs.Message.{is_primary}
 use Rattle.message_flow.specs.Outgoing.{next_block_of, next_turn}
 use Rattle.trace_log.specs.declared.names.Title.{Title}
-use Rattle.trace_log.specs.Log.{Happening}
+use Rattle.trace_log.specs.Log.{Happening, is_before_change}
 use Rattle.trace_log.specs.Names.{header_title, message_name, title_of}
 use Rattle.transact.specs.declared.begun.Begun.{Begun}
 use Rattle.transact.specs.declared.transactions.Beginning.{Beginning}
@@ -131,22 +131,23 @@ IsCalmChange hears told (Sends message) = MaySendTried told message
 IsCalmChange hears told Other = Unit {0}
 IsCalmChange hears told _ = ⊥
 
--- it doesn't count when the equipment looks back
-abbrev pub IsUncounted : Happening → Type 0
-IsUncounted what = (notes : List Happening) → past_in (what ∷ notes) ≡ past_in notes
+-- it doesn't count when the equipment looks back, and stands before no change of its file
+abbrev pub IsAside : Happening → Type 0
+IsAside what =
+    ((notes : List Happening) → past_in (what ∷ notes) ≡ past_in notes) × (is_before_change what ≡ false)
 
 -- one note more at most, and a calm one
 pub record CalmStep (hears : Bool) (told : List Told) (step next : CoreStep) : Type 0 where
   pub notes :
       (next.notes ≡ step.notes)
-      ⊎ ((what : Happening) × (IsCalmChange hears told (change_of what) × IsUncounted what)
+      ⊎ ((what : Happening) × (IsCalmChange hears told (change_of what) × IsAside what)
       × (next.notes ≡ step.notes ++ what ∷ []))
   pub core : IsCalmly step.next next.next
 
 -- ---- commands
 
 abbrev pub IsCalm : Bool → Command Kind → Type 0
-IsCalm hears (Command.Note what) = ((told : List Told) → IsCalmChange hears told (change_of what)) × IsUncounted what
+IsCalm hears (Command.Note what) = ((told : List Told) → IsCalmChange hears told (change_of what)) × IsAside what
 IsCalm hears (Command.Primary unsent) = IsOther unsent.kind
 IsCalm hears Command.Draw = ⊥
 IsCalm hears (Command.DrawnPrimary unsent) = ⊥
@@ -170,7 +171,7 @@ module _ (hears : Bool) (told : List Told) where
 
   one-note :
       (what : Happening) (step : CoreStep) (core : EndView Kind)
-      → IsCalmChange hears told (change_of what) × IsUncounted what
+      → IsCalmChange hears told (change_of what) × IsAside what
       → IsCalmly step.next core → CalmStep hears told step (noted Some what (with_end core step))
   one-note what step core may calm = record { notes = inr (what, may, refl); core = calm }
 
@@ -188,7 +189,7 @@ module _ (hears : Bool) (told : List Told) where
           Happening.Sent (primary_of unsent step.next.numbers.next),
           (
             (λ primary message told_so. absurd (grind (arith, told_so, none-told told step.next.numbers.next drawn))),
-            λ notes. refl,
+            ((λ notes. refl), refl),
           ),
           refl,
         );
@@ -210,7 +211,8 @@ module _ (hears : Bool) (told : List Told) where
           → OnEither (CalmStep hears told step) (CalmStep hears told step)
           (if crowded then Goes (noted Some (Happening.Full (unsent_name unsent)) step)
           else draws (next_number step.next.numbers) (sends Some unsent) step)
-      go true = one-note (Happening.Full (unsent_name unsent)) step step.next (tt, λ notes. refl) (itself step.next)
+      go true = one-note (Happening.Full (unsent_name unsent)) step step.next (tt, ((λ notes. refl), refl))
+          (itself step.next)
       go false = numbered (step.next.numbers.next == step.next.numbers.end) refl
 
   reply-calm :
@@ -229,14 +231,14 @@ module _ (hears : Bool) (told : List Told) where
           (with_end (with_asked None step.next) step))
       room title asks true =
           one-note (Happening.Full (message_name (reply_of title (function title.name.function) body))) step
-          (with_asked None step.next) (tt, λ notes. refl)
+          (with_asked None step.next) (tt, ((λ notes. refl), refl))
           (still step.next (with_asked None step.next) refl refl (inl refl) (λ one. tt))
       room title asks false = record {
         notes = inr (
           Happening.Sent (reply_of title (function title.name.function) body),
           (
             (λ primary message told_so. absurd (grind (arith, primary, even title.name.function asks))),
-            λ notes. refl,
+            ((λ notes. refl), refl),
           ),
           refl,
         );
@@ -287,7 +289,7 @@ module _ (hears : Bool) (told : List Told) where
       → CalmStep hears told step (drops Some header now step)
   drop-calm None now step = no-note step step.next (itself step.next)
   drop-calm (Some header) now step = record {
-    notes = inr (Happening.DroppedByT4 header, (tt, λ notes. refl), refl);
+    notes = inr (Happening.DroppedByT4 header, (tt, ((λ notes. refl), refl)), refl);
     core = still step.next _ refl refl (inl refl) (λ asks. asks);
   }
 
@@ -296,7 +298,7 @@ module _ (hears : Bool) (told : List Told) where
       → CalmStep hears told step (times_out Some test found step)
   time-calm test None step = no-note step step.next (itself step.next)
   time-calm test (Some begun) step = record {
-    notes = inr (Happening.TimedOut (header_title begun.header), (tt, λ notes. refl), refl);
+    notes = inr (Happening.TimedOut (header_title begun.header), (tt, ((λ notes. refl), refl)), refl);
     core = still step.next _ refl refl (ends-less test step.next.transactions) (λ asks. asks);
   }
 
@@ -304,7 +306,8 @@ module _ (hears : Bool) (told : List Told) where
       (header : Header) (found : Option (Begun Kind)) (step : CoreStep)
       → CalmStep hears told step (answers Some header found step)
   answer-calm header None step =
-      one-note (Happening.Stranger (header_title header)) step step.next (tt, λ notes. refl) (itself step.next)
+      one-note (Happening.Stranger (header_title header)) step step.next (tt, ((λ notes. refl), refl))
+      (itself step.next)
   answer-calm header (Some begun) step = record {
     notes = inl refl;
     core = still step.next _ refl refl (ends-less (is_answered_by header) step.next.transactions) (λ asks. asks);
@@ -351,18 +354,19 @@ module _ (hears : Bool) (told : List Told) where
       (still step.next _ refl refl (inl (timed-same (is_answered_by header) None step.next.transactions))
       (λ asks. asks))
   judged-calm header (flow.Whole message check) step heard =
-      one-note (Happening.Received message) step (with_asked (asked_by message) step.next) (heard, λ notes. refl)
+      one-note (Happening.Received message) step (with_asked (asked_by message) step.next)
+      (heard, ((λ notes. refl), refl))
       (still step.next _ refl refl (inl refl) (λ asks. asked-calm message))
   judged-calm header flow.Duplicate step heard =
-      one-note (Happening.Duplicate header) step step.next (tt, λ notes. refl) (itself step.next)
+      one-note (Happening.Duplicate header) step step.next (tt, ((λ notes. refl), refl)) (itself step.next)
   judged-calm header (flow.Foreign address) step heard =
-      one-note (Happening.Foreign header) step step.next (tt, λ notes. refl) (itself step.next)
+      one-note (Happening.Foreign header) step step.next (tt, ((λ notes. refl), refl)) (itself step.next)
   judged-calm header flow.Unexpected step heard =
-      one-note (Happening.Unexpected header) step step.next (tt, λ notes. refl) (itself step.next)
+      one-note (Happening.Unexpected header) step step.next (tt, ((λ notes. refl), refl)) (itself step.next)
   judged-calm header flow.TooLong step heard =
-      one-note (Happening.TooLongBlock header) step step.next (tt, λ notes. refl) (itself step.next)
+      one-note (Happening.TooLongBlock header) step step.next (tt, ((λ notes. refl), refl)) (itself step.next)
   judged-calm header flow.Crowded step heard =
-      one-note (Happening.Crowded header) step step.next (tt, λ notes. refl) (itself step.next)
+      one-note (Happening.Crowded header) step step.next (tt, ((λ notes. refl), refl)) (itself step.next)
 
   -- one step behind another that notes nothing
   behind : (one two three : CoreStep) → two.notes ≡ one.notes → IsCalmly one.next two.next
@@ -372,7 +376,7 @@ module _ (hears : Bool) (told : List Told) where
     notes = subst
         (λ (notes : List Happening).
         (three.notes ≡ notes)
-        ⊎ ((what : Happening) × (IsCalmChange hears told (change_of what) × IsUncounted what)
+        ⊎ ((what : Happening) × (IsCalmChange hears told (change_of what) × IsAside what)
         × (three.notes ≡ notes ++ what ∷ [])))
         same more.notes;
     core = calmly-both one.next two.next three.next calm more.core;
@@ -444,6 +448,6 @@ module _ (hears : Bool) (told : List Told) where
   carry-calm Command.DropFront step calm drawn asks =
       no-note step _ (still step.next _ refl refl (inl refl) (λ asks. asks))
   carry-calm Command.CloseStep step calm drawn asks =
-      one-note Happening.StepEnded step (with_asked None step.next) (tt, λ notes. refl)
+      one-note Happening.StepEnded step (with_asked None step.next) (tt, ((λ notes. refl), refl))
       (still step.next _ refl refl (inl refl) (λ asks. tt))
   carry-calm Command.Halt step calm drawn asks = no-note step step.next (itself step.next)

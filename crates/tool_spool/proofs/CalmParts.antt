@@ -79,13 +79,13 @@ states-like = record {
 
 pub common-calm : HasCommon (IsCalm false)
 common-calm = record {
-  comms = λ state. ((λ told. tt), λ notes. refl);
-  control = λ state. ((λ told. tt), λ notes. refl);
-  failed = λ title. ((λ told. tt), λ notes. refl);
-  dropped = λ name. ((λ told. tt), λ notes. refl);
-  denied = λ name. ((λ told. tt), λ notes. refl);
-  too_long = λ name. ((λ told. tt), λ notes. refl);
-  full = λ name. ((λ told. tt), λ notes. refl);
+  comms = λ state. ((λ told. tt), ((λ notes. refl), refl));
+  control = λ state. ((λ told. tt), ((λ notes. refl), refl));
+  failed = λ title. ((λ told. tt), ((λ notes. refl), refl));
+  dropped = λ name. ((λ told. tt), ((λ notes. refl), refl));
+  denied = λ name. ((λ told. tt), ((λ notes. refl), refl));
+  too_long = λ name. ((λ told. tt), ((λ notes. refl), refl));
+  full = λ name. ((λ told. tt), ((λ notes. refl), refl));
   ends = λ system. tt;
   removes = λ system. tt;
   recalls = λ header. tt;
@@ -148,8 +148,8 @@ AreOther lines = AreCalm false (map Note lines)
 lines-other : (t : TablesState) (is_local : Bool) (request : TablesRequest)
     → AreOther (lines_of t is_local request)
 lines-other =
-    lines_hold AreOther tt (λ name. (((λ told. tt), λ notes. refl), tt))
-    (λ tid text lines rest. (((λ told. tt), λ notes. refl), rest))
+    lines_hold AreOther tt (λ name. (((λ told. tt), ((λ notes. refl), refl)), tt))
+    (λ tid text lines rest. (((λ told. tt), ((λ notes. refl), refl)), rest))
 
 pub answer-calm : (asks : TablesRequest) (message : Message) (own : OwnView)
     → IsCalmTurn own (answer_turn asks message own)
@@ -167,7 +167,7 @@ rsda-calm message own = answers-calm (sent.text_of own (code_item (rsda_of own.l
 -- ---- commands of the tool
 
 pub refused-calm : (own : OwnView) → IsCalmTurn own (refused_turn own)
-refused-calm own = note-of own own Happening.Refused (likes own) ((λ told. tt), λ notes. refl)
+refused-calm own = note-of own own Happening.Refused (likes own) ((λ told. tt), ((λ notes. refl), refl))
 
 -- ---- the line's turn
 

@@ -13,7 +13,7 @@ use Rattle.spool_ledger.specs.Ledger.{LedgerView}
 use Rattle.tool_step.specs.declared.kind.Kind.{Kind}
 use Rattle.tool_step.specs.Own.{ToolCommands, ToolDuty}
 use Rattle.tool_reports.specs.Reported.{past_in}
-use Rattle.tool_spool.proofs.CalmCommands.{AreCalm, AreCalmDuties, AreDrawn, AsksOfPrimary, CalmStep, IsCalm, IsCalmChange, IsCalmly, IsUncounted, calmly-both, carry-calm, itself}
+use Rattle.tool_spool.proofs.CalmCommands.{AreCalm, AreCalmDuties, AreDrawn, AsksOfPrimary, CalmStep, IsCalm, IsCalmChange, IsCalmly, IsAside, calmly-both, carry-calm, itself}
 use Rattle.tool_reports.proofs.QuietNotes.{one-behind}
 use Rattle.tool_spool.proofs.Shelved.{IsShelved, noted-shelved}
 use Rattle.tool_law.proofs.WorkLines.{LeavesStanding}
@@ -57,15 +57,15 @@ calm-both hears one two three first second = record {
 
 pub one-calm :
     (hears : Bool) (what : Happening) (old : List Happening) → IsCalmChange hears (shelf_of old).told (change_of what)
-    → IsUncounted what → IsCalmBehind hears old (what ∷ old)
-one-calm hears what old calm uncounted =
+    → IsAside what → IsCalmBehind hears old (what ∷ old)
+one-calm hears what old calm aside =
     record {
       shelved = λ policy v list base is.
-          noted-shelved policy v list base old what (leaves (change_of what) calm) (may policy (change_of what) calm)
-          is;
+          noted-shelved policy v list base old what (leaves (change_of what) calm) aside.1
+          (may policy (change_of what) calm) is;
       told = (same (change_of what) calm).0;
       tried = (same (change_of what) calm).1;
-      past = uncounted old;
+      past = aside.0 old;
       since = since (change_of what) calm;
       more = more (change_of what) calm;
     }
@@ -168,7 +168,7 @@ module _ (hears : Bool) (before : List Happening) where
     where
       go : (next.notes ≡ step.notes)
           ⊎ ((what : Happening)
-          × (IsCalmChange hears (shelf_of (so_far step)).told (change_of what) × IsUncounted what)
+          × (IsCalmChange hears (shelf_of (so_far step)).told (change_of what) × IsAside what)
           × (next.notes ≡ step.notes ++ what ∷ []))
           → IsCalmBehind hears (so_far step) (so_far next)
       go (inl same) =

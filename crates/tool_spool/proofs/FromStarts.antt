@@ -8,13 +8,12 @@ use Rattle.message_end.specs.Course.Meeting.{Acts, Breaks, Fills, LosesPower, Re
 use Rattle.message_end.specs.Ends.{Loss, Machine, call_of}
 use Rattle.disk_base.specs.declared.cut.CutChoice.{CutChoice}
 use Rattle.std.specs.Prelude.{Option, Some, None}
-use Rattle.spool_law.specs.Shelf.{Change, KeepsSpool, MayChange, Policy, change_of}
+use Rattle.spool_law.specs.Shelf.{Change, KeepsSpool, KeepsSpoolFrom, MayChange, Policy, StartsWith, change_of}
 use Rattle.spool_law.specs.Shelf.Change.{Finds}
 use Rattle.trace_log.specs.Log.{Happening}
 use Rattle.trace_log.specs.Names.{Spooled}
 use Rattle.tool_spool.specs.LeavesInStep.{LeaveInTheirSteps, MayChangeInStep}
 use Rattle.tool_spool.specs.MadeRoom.{MakesRoomForPuts, MayUse}
-use Rattle.tool_spool.specs.SpoolKept.{KeepsSpoolFrom, StartsWith}
 
 -- ---- whatever the first start finds
 

@@ -1,6 +1,6 @@
 -- What a loss of power leaves of the list is what a start may find of it, at whichever call of a work it comes.
 use Rattle.std.proofs.Common.{◌≡◌, refl, sym, ap, subst, ◌∙◌, arith, ◌+◌, ◌^◌, ◌≤◌, Bool, true, false, ℕ, List, []}
-use Rattle.std.proofs.Common.{◌∷◌, ◌++◌, append-nil, append_assoc, drop, length, map, Option, if◌then◌else◌}
+use Rattle.std.proofs.Common.{◌∷◌, ◌++◌, append-nil, append_assoc, length, map, Option, if◌then◌else◌}
 use Rattle.std.specs.Prelude.{sum}
 use Rattle.disk_base.specs.declared.cut.CutChoice.{CutChoice}
 use Rattle.gem_spool.specs.Updates.{Left}

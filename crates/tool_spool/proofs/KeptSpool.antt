@@ -3,7 +3,7 @@ use Rattle.std.proofs.Common.{◌≡◌, refl, sym, ap, subst, ◌∙◌, inl, i
 use Rattle.std.proofs.Common.{true, false, ℕ, List, [], ◌∷◌, ◌++◌, length, Option, Some, None, if◌then◌else◌}
 use Rattle.std.proofs.lemmas.List.Elements.{All-nil}
 use Rattle.trace_log.specs.declared.commands.ToolCommand.{ToolCommand}
-use Rattle.trace_log.specs.Log.{Happening}
+use Rattle.trace_log.specs.Log.{Happening, is_before_change}
 use Rattle.message_end.specs.Core.{Went, at_first, step_in, EndView, noted}
 use Rattle.transact.specs.Numbers.{numbers_from}
 use Rattle.message_end.specs.Core.Went.{Goes, Spent}
@@ -15,7 +15,7 @@ use Rattle.message_end.specs.Ends.{Input, IsFront, Loss, call_of}
 use Rattle.message_end.specs.Laws.{new_end}
 use Rattle.message_end.specs.Own.{Has}
 use Rattle.disk_base.specs.declared.cut.CutChoice.{CutChoice}
-use Rattle.spool_law.specs.Shelf.{change_of, shelf_of}
+use Rattle.spool_law.specs.Shelf.{KeepsSpoolFrom, change_of, shelf_of}
 use Rattle.spool_law.specs.Shelf.Change.{Other}
 use Rattle.spool_ledger.specs.Ledger.{LedgerView, decided_count, new_ledger, next_of, stood_count}
 use Rattle.spool_ledger.specs.Ledger.{Numbered}
@@ -52,7 +52,7 @@ use Rattle.tool_law.specs.Sound.{CanBeSent}
 use Rattle.tool_spool.specs.InPairs.{AreInPairs, ArePairsOfStep, TellsWorks, WorksAreInPairs, changes_in}
 use Rattle.tool_spool.specs.LeavesInStep.{LeaveInTheirSteps, MessagesLeaveInStep}
 use Rattle.tool_spool.specs.MadeRoom.{IsRoomUsed, LeavesNoRoom, OverwritesForPuts, UsesRoom}
-use Rattle.tool_spool.specs.SpoolKept.{KeepsSpoolFrom, MayHold, SpoolIsKept, SpoolIsKeptFrom, policy_of, used_in}
+use Rattle.tool_spool.specs.SpoolKept.{MayHold, SpoolIsKept, SpoolIsKeptFrom, policy_of, used_in}
 use Rattle.tool_step.specs.Step.{end_plan}
 use Rattle.tool_step.specs.declared.kind.Kind.{Kind}
 use Rattle.tool_step.proofs.StepFiles.{act-slots, act-version, begun-file, ended-file}
@@ -135,12 +135,13 @@ module _ (plan : EquipmentPlan) (fits : EquipmentPlanFits plan) (looked : Tables
         core = new_end (end_plan plan) (numbers_from file.mark.value 4096)
 
     noted-so :
-        (s : EquipmentView) (notes : List Happening) (what : Happening) → change_of what ≡ Other → IsSpoolSo s notes
-        → IsSpoolSo s (what ∷ notes)
-    noted-so s notes what other so = record {
+        (s : EquipmentView) (notes : List Happening) (what : Happening) → change_of what ≡ Other
+        → is_before_change what ≡ false → IsSpoolSo s notes → IsSpoolSo s (what ∷ notes)
+    noted-so s notes what other aside so = record {
       shelves =
           (rebased plan fits looked slots) s.file.list notes notes (what ∷ notes) s.node.own s.node.core (what ∷ notes)
-          so.none (full-so plan slots s.file.list notes notes s.node.own what (at_first s.node.core) other so.shelves);
+          so.none (full-so plan slots s.file.list notes notes s.node.own what (at_first s.node.core) other aside
+          so.shelves);
       none = so.none;
       slots_are = so.slots_are;
       version = so.version;
@@ -448,8 +449,8 @@ module _ (plan : EquipmentPlan) (fits : EquipmentPlanFits plan) (looked : Tables
             (first-most s.file.floor.value v.first (next_of v) (2 ^ 63 + 65535) s.file.list chain so.shelves.is.bound
             so.floor) so.floor
     meeting-so (Writes characters) said (Reached s notes) reported so =
-        noted-so s notes (Happening.Wrote characters) refl so
-    meeting-so LosesPower said (Reached s notes) reported so = noted-so s notes Happening.Power refl so
+        noted-so s notes (Happening.Wrote characters) refl refl so
+    meeting-so LosesPower said (Reached s notes) reported so = noted-so s notes Happening.Power refl refl so
     meeting-so (Breaks input now call choice) said (Reached s notes) reported so =
         broken-so input now call choice said s notes (call_of call (losses s input now)) refl reported.holds
         reported.good so

@@ -1,5 +1,5 @@
 -- That a whole step, and a start, keep the spool.
-use Rattle.std.proofs.Common.{◌≡◌, refl, sym, ap, subst, ◌∙◌, arith, ◌<◌, ◌≤◌, ◌+◌, ◌^◌, Bool, true, false, ℕ, List, [], ◌∷◌, ◌++◌, length, append-nil, Some, if◌then◌else◌}
+use Rattle.std.proofs.Common.{◌≡◌, refl, sym, ap, subst, ◌∙◌, arith, ◌<◌, ◌≤◌, ◌+◌, ◌^◌, Bool, true, false, ℕ, List, [], ◌∷◌, ◌++◌, append-nil, Some, if◌then◌else◌}
 use Rattle.trace_log.specs.declared.commands.ToolCommand.{ToolCommand}
 use Rattle.trace_log.specs.Log.{Happening}
 use Rattle.transact.specs.Numbers.{numbers_from}

@@ -107,7 +107,7 @@ module _ (plan : EquipmentPlan) (slots : ℕ) (list : List Put) (base : List Hap
         is = good;
         all = refl;
         shelved =
-            noted-shelved (policy_of plan slots) (changed active v).next list base notes (Spool active) tt tt
+            noted-shelved (policy_of plan slots) (changed active v).next list base notes (Spool active) tt refl tt
             (moved-shelved v (changed active v).next notes refl refl (refl, refl) shelved);
         told = refl;
         tables = refl;
@@ -149,7 +149,7 @@ module _ (plan : EquipmentPlan) (slots : ℕ) (list : List Put) (base : List Hap
       taken-shelved system waiting some =
           noted-shelved (policy_of plan slots) (taken_up v.first system waiting v).next list base notes
           (Try v.first system)
-          tt
+          tt refl
           (first-is (policy_of plan slots) v list base notes cause.Confirmed None is
           (shelved-for None (policy_of plan slots) v list base notes shelved) some)
           (moved-shelved v (taken_up v.first system waiting v).next notes refl refl (refl, refl) shelved)

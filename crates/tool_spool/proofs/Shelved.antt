@@ -1,6 +1,6 @@
 -- That the spool that the notes tell of is the list that the ledger and the file come to, over every change of the
 -- ledger.
-use Rattle.std.proofs.Common.{◌≡◌, ◌≢◌, refl, sym, ap, subst, ◌∙◌, inl, inr, arith, ◌<◌, ◌≤◌, ◌+◌, ◌-◌, ◌^◌, ◌==◌, nat_le, nat_lt, Bool, true, false, ℕ, List, [], ◌∷◌, ◌++◌, ◌⊎◌, drop, length, length-append, Option, Some, None, not, if◌then◌else◌}
+use Rattle.std.proofs.Common.{◌≡◌, ◌≢◌, refl, sym, ap, subst, ◌∙◌, inl, inr, arith, ◌<◌, ◌≤◌, ◌+◌, ◌==◌, Bool, true, false, ℕ, List, [], ◌∷◌, ◌++◌, ◌⊎◌, drop, length, Option, Some, None, not, if◌then◌else◌}
 use Rattle.std.proofs.lemmas.Bool.Decides.{nat_tests}
 use Rattle.std.specs.Prelude.{map, sum}
 use Rattle.gem_spool.specs.Works.{count_after, counts_after, list_after, lists_after}
@@ -23,7 +23,7 @@ use Rattle.spool_file.specs.Run.{IsChainFrom}
 use Rattle.spool_file.specs.Slot.{Message, width}
 use Rattle.spool_file.proofs.Runs.{chain_last}
 use Rattle.spool_ledger.proofs.Widths.{widths-last, widths-long, widths-rest}
-use Rattle.trace_log.specs.Log.{Happening}
+use Rattle.trace_log.specs.Log.{Happening, is_before_change}
 use Rattle.trace_log.specs.Log.Happening.{Discarded, Gone, Leaving, TooLong}
 use Rattle.trace_log.specs.Names.{Spooled, spooled_name}
 use Rattle.trace_log.specs.declared.names.Cause.{Cause}
@@ -40,7 +40,7 @@ use Rattle.tool_spool.specs.SpoolKept.{sizes_of}
 use Rattle.tool_spool.proofs.Chained.{chain-below, chain-first, chain-rest, sizes-found}
 use Rattle.tool_spool.proofs.FromStarts.{KeepsOn}
 use Rattle.tool_spool.proofs.PairedLines.{AreTold, told-more, told-none, told-work}
-use Rattle.tool_law.proofs.WorkLines.{AreLines, LeavesStanding, lines-more, lines-none, lines-work, quiet-change}
+use Rattle.tool_law.proofs.WorkLines.{AreLines, LeavesStanding, lines-more, lines-none, lines-work}
 
 -- ---- lists
 
@@ -165,9 +165,9 @@ module _ (policy : Policy) where
 
   pub noted-shelved :
       (v : LedgerView) (list : List Message) (base notes : List Happening) (what : Happening)
-      → LeavesStanding (change_of what) → MayChange policy notes (change_of what) → IsShelved policy v list base notes
-      → IsShelved policy v list base (what ∷ notes)
-  noted-shelved v list base notes what leaves may is =
+      → LeavesStanding (change_of what) → is_before_change what ≡ false → MayChange policy notes (change_of what)
+      → IsShelved policy v list base notes → IsShelved policy v list base (what ∷ notes)
+  noted-shelved v list base notes what leaves aside may is =
       let all = same (change_of what) leaves in
       record {
         kept = inr (may, inl is.closed, quiet-in-step policy (change_of what) notes leaves, is.kept);
@@ -175,7 +175,7 @@ module _ (policy : Policy) where
         stands = all.1 ∙ is.stands;
         chain = is.chain;
         sizes = is.sizes;
-        lines = lines-more v list base notes what (quiet-change what leaves) is.lines;
+        lines = lines-more v list base notes what aside is.lines;
         told = told-more v list base notes what leaves is.told;
         closed = used-behind (change_of what) notes leaves;
       }
@@ -535,8 +535,8 @@ module _ (policy : Policy) where
               (shelved-for (Some message) policy v list base notes shelved))))
           go room.Full false e may same =
               subst (λ (b : Booked). IsShelved policy b.next list base (noted_behind b.lines notes)) (some-inj _ _ same)
-              (noted-shelved v list base notes (Discarded (spooled_name message)) tt tt shelved)
+              (noted-shelved v list base notes (Discarded (spooled_name message)) tt refl tt shelved)
           go room.TooLong overwriting e may same =
               subst (λ (b : Booked). IsShelved policy b.next list base (noted_behind b.lines notes)) (some-inj _ _ same)
-              (noted-shelved v list base notes (TooLong (spooled_name message)) tt tt shelved)
+              (noted-shelved v list base notes (TooLong (spooled_name message)) tt refl tt shelved)
           go room.NumbersSpent overwriting e may same = absurd (grind (arith, same))

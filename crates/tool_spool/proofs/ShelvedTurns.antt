@@ -1,9 +1,8 @@
 -- What turns keep of the spool as it is noted.
-use Rattle.std.proofs.Common.{◌≡◌, ◌+◌, refl, sym, ap, subst, ◌∙◌, inl, Bool, true, ℕ, List, [], ◌∷◌, ◌++◌, All, append-nil, append_assoc, Option, Some, None}
+use Rattle.std.proofs.Common.{◌≡◌, refl, sym, ap, subst, ◌∙◌, inl, Bool, true, ℕ, List, [], ◌∷◌, ◌++◌, All, append-nil, append_assoc, Option, Some, None}
 use Rattle.std.proofs.lemmas.List.Elements.{All-head, All-tail}
 use Rattle.std.specs.Option.{option_map_or}
 use Rattle.gem_spool.specs.Works.{AreDue}
-use Rattle.gem_spool.specs.declared.count.Count.{Count}
 use Rattle.gem_spool.specs.declared.works.Work.{Work}
 use Rattle.message_end.specs.Core.{EndView, Went, and_then, carried, noted}
 use Rattle.message_end.specs.Core.Command.{Halt}

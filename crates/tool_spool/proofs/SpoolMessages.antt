@@ -414,7 +414,8 @@ module _ (plan : EquipmentPlan) (slots : ℕ) (list : List Put) (base before : L
                 ap received_in_step (one-behind step.notes (Happening.Recorded (Past.Asked message)) before)
                 ∙ newest.in_step;
           })
-          (full-so plan slots list base before own (Happening.Recorded (Past.Asked message)) step refl holds.shelves)
+          (full-so plan slots list base before own (Happening.Recorded (Past.Asked message)) step refl refl
+          holds.shelves)
 
   known-keeps :
       (now : ℕ) (header : Header) (message : Message) (own : OwnView) (step : CoreStep) → IsNewest message step
@@ -502,7 +503,7 @@ module _ (plan : EquipmentPlan) (slots : ℕ) (list : List Put) (base before : L
           calm-turn plan slots list base before own (set_turn None vid value own) step
           (note-of own (with_tables (set_after vid value own.tables) own) (Happening.Set vid)
           (like-as own (with_tables (set_after vid value own.tables) own) refl refl)
-          ((λ told. tt), λ notes. refl)) holds
+          ((λ told. tt), ((λ notes. refl), refl))) holds
   command-keeps (tool.Event ceid) now own e step holds at = go (is_planned own.tables.reports ceid)
     where
       next : CoreStep
@@ -513,7 +514,7 @@ module _ (plan : EquipmentPlan) (slots : ℕ) (list : List Put) (base before : L
         shelves =
             like-it plan slots list base before own (with_event own) next.next (notes_at next)
             (like-as own (with_event own) refl refl)
-            (full-so plan slots list base before own (Happening.Event ceid own.events) step refl holds);
+            (full-so plan slots list base before own (Happening.Event ceid own.events) step refl refl holds);
         at = ap (tables_in plan) (one-behind step.notes (Happening.Event ceid own.events) before) ∙ at;
       }
 
@@ -541,7 +542,7 @@ module _ (plan : EquipmentPlan) (slots : ℕ) (list : List Put) (base before : L
       behind = record {
         shelves =
             like-it plan slots list base before own on next.next (notes_at next) (like-as own on refl refl)
-            (full-so plan slots list base before own (Happening.Alarm alid is_set) step refl holds);
+            (full-so plan slots list base before own (Happening.Alarm alid is_set) step refl refl holds);
         at = ap (tables_in plan) (one-behind step.notes (Happening.Alarm alid is_set) before) ∙ at;
       }
 
@@ -556,7 +557,7 @@ module _ (plan : EquipmentPlan) (slots : ℕ) (list : List Put) (base before : L
       go alarm_step.Unknown = calm-turn plan slots list base before own (refused_turn own) step (refused-calm own) holds
       go alarm_step.Same =
           calm-turn plan slots list base before own (alarm_turn alarm_step.Same alid is_set own e) step
-          (note-of own own (Happening.Alarm alid is_set) (likes own) ((λ told. tt), λ notes. refl)) holds
+          (note-of own own (Happening.Alarm alid is_set) (likes own) ((λ told. tt), ((λ notes. refl), refl))) holds
       go (alarm_step.Changed enabled) = by enabled
   command-keeps tool.Enable now own e step holds at =
       calm-turn plan slots list base before own (states.comms_turn comms_in.Enable now own) step
@@ -588,7 +589,7 @@ module _ (plan : EquipmentPlan) (slots : ℕ) (list : List Put) (base before : L
       → TurnEnds plan slots list base before (told_turn command now own e) step
   told-keeps command now own e step fits looked holds =
       command-keeps command now own e (noted Some what step)
-      (full-so plan slots list base before own what step refl holds.shelves)
+      (full-so plan slots list base before own what step refl refl holds.shelves)
       (ap (tables_in plan) (one-behind step.notes what before)
       ∙ looked.next plan (past_in (notes_at step)) (Past.Commanded command) fits
       ∙ ap (λ (t : TablesState). after_command command t) holds.at)

@@ -2,7 +2,7 @@
 use Rattle.std.proofs.Common.{◌≡◌, refl, sym, ap, subst, ◌∙◌, inl, inr, ◌⊎◌, arith, ◌<◌, ◌+◌, ◌==◌, Bool, true, false, ℕ, List, [], ◌∷◌, ◌++◌, Option, Some, None, if◌then◌else◌, length}
 use Rattle.std.specs.Option.{option_map}
 use Rattle.block_codec.specs.declared.header.Header.{Header}
-use Rattle.trace_log.specs.Log.{Happening}
+use Rattle.trace_log.specs.Log.{Happening, is_before_change}
 use Rattle.trace_log.specs.Log.Happening.{Full, Sent, Try}
 use Rattle.trace_log.specs.Names.{Spooled}
 use Rattle.transact.specs.declared.transactions.Beginning.{Beginning}
@@ -181,16 +181,17 @@ module _ (plan : EquipmentPlan) (slots : ℕ) (list : List Put) (base before : L
       (sym (one-behind step.notes what before)) holds
 
   pub full-so : (own : OwnView) (what : Happening) (step : CoreStep) → change_of what ≡ Other
+      → is_before_change what ≡ false
       → Shelves plan slots list base before own step.next (noted_behind step.notes before)
       → Shelves plan slots list base before own step.next (noted_behind (noted Some what step).notes before)
-  full-so own what step other holds =
+  full-so own what step other aside holds =
       noted-so own what step step.next
       (record {
         is = holds.is;
         all = holds.all;
         shelved =
             noted-shelved (policy_of plan slots) own.ledger list base (noted_behind step.notes before) what
-            (subst LeavesStanding (sym other) tt)
+            (subst LeavesStanding (sym other) tt) aside
             (subst (MayChange (policy_of plan slots) (noted_behind step.notes before)) (sym other) tt) holds.shelved;
         drawn =
             subst (λ (c : Change). AreDrawn (shelf_changed c (shelf_of (noted_behind step.notes before))).told
@@ -242,7 +243,7 @@ module _ (plan : EquipmentPlan) (slots : ℕ) (list : List Put) (base before : L
           (if crowded then noted Some (Full (unsent_name (unloaded message))) step
           else sends Some (unloaded message) system (with_end (record step.next { drawn = None }) step)).notes before)
       go true =
-          end-keeps own step.next _ none (full-so own (Full (unsent_name (unloaded message))) step refl holds)
+          end-keeps own step.next _ none (full-so own (Full (unsent_name (unloaded message))) step refl refl holds)
       go false =
           noted-so own (Sent (primary_of (unloaded message) system))
           (with_end (record step.next { drawn = None }) step) _
@@ -251,7 +252,7 @@ module _ (plan : EquipmentPlan) (slots : ℕ) (list : List Put) (base before : L
             all = holds.all;
             shelved =
                 noted-shelved (policy_of plan slots) own.ledger list base (noted_behind step.notes before)
-                (Sent (primary_of (unloaded message) system)) tt may holds.shelved;
+                (Sent (primary_of (unloaded message) system)) tt refl may holds.shelved;
             drawn = holds.drawn;
             asks = holds.asks;
             under_way =
@@ -313,7 +314,7 @@ module _ (plan : EquipmentPlan) (slots : ℕ) (list : List Put) (base before : L
             all = holds.all;
             shelved =
                 noted-shelved (policy_of plan slots) own.ledger list base (noted_behind step.notes before)
-                (Sent (primary_of (unload_request text) step.next.numbers.next)) tt
+                (Sent (primary_of (unload_request text) step.next.numbers.next)) tt refl
                 (λ primary message told_so.
                 absurd
                 (grind (
@@ -348,7 +349,8 @@ module _ (plan : EquipmentPlan) (slots : ℕ) (list : List Put) (base before : L
           → Ends plan slots list base before (if crowded then unloaded_own own else own)
           (if crowded then Goes (noted Some (Full (unsent_name (unload_request text))) step)
           else draws (next_number step.next.numbers) (sends Some (unload_request text)) step)
-      go true = end-keeps own step.next _ none (full-so own (Full (unsent_name (unload_request text))) step refl holds)
+      go true = end-keeps own step.next _ none
+          (full-so own (Full (unsent_name (unload_request text))) step refl refl holds)
       go false = numbered (step.next.numbers.next == step.next.numbers.end) refl
 
   -- its reply has come, so that it leaves where it stands first still

@@ -83,10 +83,10 @@ module _ (plan : EquipmentPlan) (start : Went EquipmentView Happening)
         base = started.base;
         found = starts.found;
         before = notes;
-        doings = [];
+        doings = started.said;
         noted =
             ap (λ (ns : List Happening). noted_behind ns notes)
-            (started.notes ∙ ap (λ (what : Happening). what ∷ []) starts.is);
+            (started.notes ∙ ap (λ (what : Happening). what ∷ noted_in started.said) starts.is);
         did = started.is;
       }
 

@@ -14,6 +14,8 @@ line-used : (what : Happening) (before : List Happening) → is_before_change wh
     → IsUsedBy (change_of what) before
 line-used (Happening.Storing number message) before is = tt
 line-used (Happening.Leaving number why room_for) before is = tt
+line-used (Happening.Keeping primary) before is = tt
+line-used (Happening.Listing number listed) before is = tt
 line-used what before is = absurd (cc)
 
 module _ (base : List Happening) where

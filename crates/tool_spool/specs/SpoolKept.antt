@@ -1,18 +1,16 @@
 -- That the equipment keeps the law of its spool over its notes.
-use Rattle.std.specs.Prelude.{◌≡◌, ◌<◌, ◌≤◌, ◌+◌, ◌&&◌, ◌^◌, nat_le, ℕ, Bool, true, false, List, [], ◌∷◌, length, map, sum, Option, Some}
+use Rattle.std.specs.Prelude.{◌<◌, ◌≤◌, ◌+◌, ◌&&◌, ◌^◌, nat_le, ℕ, Bool, true, false, List, length, map, sum, Option, Some}
 use Rattle.gem_shapes.specs.declared.request.Request.{Request}
 use Rattle.gem_shapes.specs.declared.request.Request.TheVariants as request
 use Rattle.trace_log.specs.declared.commands.ToolCommand.{ToolCommand}
 use Rattle.message_end.specs.Course.{Meeting, course_of, notes_of}
-use Rattle.spool_law.specs.Shelf.{Change, KeepsSpool, MayChange, Policy, change_of}
-use Rattle.spool_law.specs.Shelf.Change.{Finds}
+use Rattle.spool_law.specs.Shelf.{KeepsSpool, KeepsSpoolFrom, Policy}
 use Rattle.spool_file.specs.File.{SpoolFile}
 use Rattle.spool_file.specs.Format.{empty_file}
 use Rattle.spool_ledger.specs.Ledger.{size_of}
 use Rattle.spool_file.specs.Run.{IsChainFrom}
 use Rattle.spool_file.specs.Slot.{width}
 use Rattle.spool_works.specs.Found.{first_in, found_in}
-use Rattle.trace_log.specs.Log.{Happening}
 use Rattle.trace_log.specs.Names.{Spooled}
 use Rattle.equipment_tables.specs.declared.plan.EquipmentPlan.{EquipmentPlan}
 use Rattle.equipment_tables.specs.Plan.{EquipmentPlanFits}
@@ -58,21 +56,6 @@ pub record MayHold (file : SpoolFile) : Type 0 where
   pub bound : first_in file + used_in file ≤ 2 ^ 63 + 65535
   pub floor : file.floor.value ≤ 2 ^ 63 + 65535
   pub sent : AllCanBeSent file.list
-
--- the first of all notes is a start that finds these messages; each later one agrees with all before it
-abbrev pub StartsWith : List (ℕ × Spooled) → Change → Type 0
-StartsWith held (Finds found) = found ≡ held
-StartsWith held _ = ⊥
-
-abbrev pub MayFollow : Policy → List (ℕ × Spooled) → List Happening → Change → Type 0
-MayFollow policy held [] change = StartsWith held change
-MayFollow policy held (newest ∷ before) change = MayChange policy (newest ∷ before) change
-
--- the law of the notes, over a file that held these messages before the first of them (this profile)
-abbrev pub KeepsSpoolFrom : Policy → List (ℕ × Spooled) → List Happening → Type 0
-KeepsSpoolFrom policy held [] = Unit {0}
-KeepsSpoolFrom policy held (what ∷ before) =
-    MayFollow policy held before (change_of what) × KeepsSpoolFrom policy held before
 
 -- ---- the laws
 

@@ -2,11 +2,10 @@
 -- followed by hand. The newest comes first.
 use Rattle.std.specs.Prelude.{◌≡◌, ℕ, true, List, [], ◌∷◌, None}
 use Rattle.message_flow.specs.declared.message.Message.{Message}
-use Rattle.spool_law.specs.Shelf.{KeepsSpool, Policy}
+use Rattle.spool_law.specs.Shelf.{KeepsSpool, KeepsSpoolFrom, Policy}
 use Rattle.trace_log.specs.declared.names.Cause.TheVariants as cause
 use Rattle.trace_log.specs.Log.{Happening}
 use Rattle.trace_log.specs.Names.{Spooled}
-use Rattle.tool_spool.specs.SpoolKept.{KeepsSpoolFrom}
 
 abbrev pub held : Spooled → List (ℕ × Spooled)
 held message = (7, message) ∷ []

@@ -1,5 +1,5 @@
 -- What a step asks of the disk, in its order, and what there is where the disk fails on the way.
-use Rattle.std.specs.Prelude.{ℕ, Bool, ◌+◌, ◌&&◌, not, List, [], ◌∷◌, ◌++◌, is_some, map, if◌then◌else◌}
+use Rattle.std.specs.Prelude.{ℕ, Bool, ◌&&◌, not, List, [], ◌∷◌, ◌++◌, is_some, map, if◌then◌else◌}
 use Rattle.gem_spool.specs.declared.works.Work.{Work}
 use Rattle.gem_spool.specs.Standing.{Standing}
 use Rattle.trace_log.specs.declared.commands.ToolCommand.{ToolCommand}

@@ -9,9 +9,9 @@ use Rattle.spool_works.specs.DiskWorks.{reserve_asks}
 use Rattle.tool_step.specs.Equipment.{EquipmentView, act, restarts}
 use Rattle.tool_step.specs.Losses.{losses}
 
--- what makes a new file of so many slots: a call of each and two, the first of which write its head and a gate each
+-- what makes a new file of so many slots: one call writes its head, one each a gate, 32 the area, and the last syncs
 abbrev pub making : ℕ → Asked
-making slots = record { calls = slots + 2; bytes = slots + 4096 }
+making slots = record { calls = slots + 34; bytes = slots + 528384 }
 
 -- what takes up such a file: a sync, a read of its front, two of each slot, and one more of each of the last ones
 abbrev pub taking_up : ℕ → Asked
@@ -21,14 +21,14 @@ taking_up slots = record { calls = 2 * slots + look_back slots + 2; bytes = 0 }
 abbrev pub starting : SpoolFile → Asked
 starting file = asked_both (record { calls = length file.list; bytes = 0 }) reserve_asks
 
--- it puts into a full spool nothing that it must, so that no step of it ends early by what it fills; and at a start the
+-- it puts into a full spool nothing that it must, so that no step of it ends early for want of room; and at a start the
 -- disk is asked before anything is noted. (The file of a world is of version 2 from its making on.)
 abbrev pub machine : Machine EquipmentView ToolCommand
 machine = record {
   act = act;
   restart = restarts;
   line = λ s. s.node.core.line;
-  fills = λ s input now. false;
+  lacks_room = λ s input now. false;
   stops = stops;
   start_stops = [] ∷ [];
   asks = asks;

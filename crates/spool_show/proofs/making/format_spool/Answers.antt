@@ -13,7 +13,7 @@ returns-in-Done g c = record {
   tells = c.format_attached.ensures.tells ∙ attached_tells _ _ c.in-Done.ensures.told;
   cause = cause_behind _ _ _ c.args.slots _ c.format_attached.result c.in-Done.ensures.cause
       c.format_attached.ensures.cause;
-  asks = asks_making c.args.slots c.slot_place.ensures c.in-Done.ensures.calls c.format_attached.ensures.calls;
+  asks = asks_making c.args.slots c.area_end.ensures.end c.in-Done.ensures.calls c.format_attached.ensures.calls;
 }
 
 pub returns-in-Failed : goal.returns-in-Failed
@@ -21,6 +21,6 @@ returns-in-Failed g c = record {
   file = inl c.in-Failed.ensures.file;
   made = wrote_nothing;
   tells = attached_tells _ _ c.in-Failed.ensures.told;
-  cause = unattached _ _ c.args.slots _ (c.slot_place.ensures) c.in-Failed.ensures.cause;
-  asks = asks_failed c.args.slots c.slot_place.ensures c.in-Failed.ensures.calls;
+  cause = unattached _ _ c.args.slots _ (c.area_end.ensures.end) c.in-Failed.ensures.cause;
+  asks = asks_failed c.args.slots c.area_end.ensures.end c.in-Failed.ensures.calls;
 }
