@@ -4,7 +4,7 @@ use Rattle.gl_base.specs.declared.side.Side.{Side}
 use Rattle.gl_base.specs.declared.side.Side.TheVariants.{Equipment, Host}
 use Rattle.line_way.specs.Kept.{without_power}
 use Rattle.line_way.specs.Ways.{Ways}
-use Rattle.message_end.specs.Core.{Step, Went as WentTo, step_in}
+use Rattle.message_end.specs.Core.{Went as WentTo, step_in}
 use Rattle.message_end.specs.Core.Went.{Goes, Spent}
 use Rattle.message_end.specs.Ends.{Machine, Reach, reach_behind}
 use Rattle.trace_log.specs.Log.{Happening}

@@ -18,11 +18,11 @@ never-on side true is = absurd (cc)
 never-on side false is = absurd (cc)
 
 -- nor does what ends it early, and no power is lost with that
-pub never-early : (fills : Bool) → spent_for fills ≡ answer.Went → ⊥
+pub never-early : (lacks_room : Bool) → spent_for lacks_room ≡ answer.Went → ⊥
 never-early true is = absurd (cc)
 never-early false is = absurd (cc)
 
-pub early-powered : (fills : Bool) (whose : Side) → spent_for fills ≡ answer.PowerLost whose → ⊥
+pub early-powered : (lacks_room : Bool) (whose : Side) → spent_for lacks_room ≡ answer.PowerLost whose → ⊥
 early-powered true whose is = absurd (cc)
 early-powered false whose is = absurd (cc)
 
@@ -84,14 +84,15 @@ module _ {S C : Type 0} (machine : Machine S C) (side : Side) (now : ℕ) (reach
             no_other_end = λ other lost. let both = sym how ∙ lost in absurd (cc);
           }
       by_went none left whole (Spent step) is =
-          by_fills (machine.fills s input now) refl (how-made none left whole (Spent step) is)
+          by_room (machine.lacks_room s input now) refl (how-made none left whole (Spent step) is)
         where
           all : IsPassed passed
           all = subst IsPassed (sym whole) tt
 
-          by_fills : (b : Bool) → machine.fills s input now ≡ b → here.went ≡ spent_for (machine.fills s input now)
+          by_room : (b : Bool) → machine.lacks_room s input now ≡ b
+              → here.went ≡ spent_for (machine.lacks_room s input now)
               → Ends
-          by_fills false room is_made =
+          by_room false room is_made =
               let how : here.went ≡ answer.NumbersSpent = is_made ∙ ap spent_for room in
               record {
                 slip = (λ slip. cc, λ slip. cc);
@@ -102,14 +103,14 @@ module _ {S C : Type 0} (machine : Machine S C) (side : Side) (now : ℕ) (reach
                 no_other = λ other. cc;
                 no_other_end = λ other lost. let both = sym how ∙ lost in absurd (cc);
               }
-          by_fills true fills is_made =
-              let how : here.went ≡ answer.JournalFull = is_made ∙ ap spent_for fills in
+          by_room true lacks_room is_made =
+              let how : here.went ≡ answer.JournalFull = is_made ∙ ap spent_for lacks_room in
               record {
                 slip = (λ slip. cc, λ slip. cc);
                 lost = (λ lost. cc, λ cause. let both = sym whole ∙ cause.1.1 in cc);
                 crowded = (λ crowded. cc, λ cause. let both = sym whole ∙ cause.1.1 in cc);
                 spent = (λ spent. cc, λ cause. let other = cause.1 in cc);
-                full = (λ full. ((none, (all, (step, is))), fills), λ cause. how);
+                full = (λ full. ((none, (all, (step, is))), lacks_room), λ cause. how);
                 no_other = λ other. cc;
                 no_other_end = λ other lost. let both = sym how ∙ lost in absurd (cc);
               }

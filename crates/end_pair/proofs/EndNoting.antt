@@ -246,8 +246,8 @@ module _ {S C : Type 0} (start : Step S Happening) (machine : Machine S C) (side
             ),
           );
         };
-        on = λ on. absurd (never-early (machine.fills s input now) on);
-        broken = λ dark. absurd (early-powered (machine.fills s input now) side dark);
+        on = λ on. absurd (never-early (machine.lacks_room s input now) on);
+        broken = λ dark. absurd (early-powered (machine.lacks_room s input now) side dark);
       }
 
   -- a disk stops it, which ends all or loses the power

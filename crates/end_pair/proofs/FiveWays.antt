@@ -19,7 +19,7 @@ use Rattle.trace_log.specs.declared.commands.HostCommand.{HostCommand}
 use Rattle.trace_log.specs.declared.commands.ToolCommand.{ToolCommand}
 use Rattle.end_pair.specs.declared.answers.WorldStep.{WorldStep}
 use Rattle.end_pair.specs.declared.answers.WorldStep.TheVariants as answer
-use Rattle.end_pair.specs.Laws.{AreNotes, AreNotesBefore, EndsOneWay, IsEnd, IsSlip, NeverFills, OnNewest}
+use Rattle.end_pair.specs.Laws.{AreNotes, AreNotesBefore, EndsOneWay, IsEnd, IsSlip, NeverLacksRoom, OnNewest}
 use Rattle.end_pair.specs.Run.{closing, piece_of, whole_log}
 use Rattle.end_pair.specs.Steps.{Stepped, entries_of, made, made_by, slipped, slips, spent_for, stepped, stopped_for}
 use Rattle.end_pair.specs.World.{EndAt, Piece, World, after_event, after_events, again, and_more, and_on, armed, at_start, begun, both_stepped, darkened, ended_by, equipment_makes, equipment_stepped, given, given_next, given_times, happened, host_makes, host_stepped, later, met, most_steps, restart_of, settled, settled_times, started_anew, still, timed, turned_out, way_to, with_equipment, with_host, without}
@@ -122,29 +122,31 @@ of-both NoStore Both entries went one so = record {
 module _ {S C : Type 0} (machine : Machine S C) (side : Side) (now : ℕ) (reach : Reach) (choice : CutChoice)
     (input : Input C) (s : S) (ways : Ways) where
   abbrev IsSoStep : Stepped S → Type 0
-  IsSoStep step = IsSo (NeverFills machine) step.entries step.went
+  IsSoStep step = IsSo (NeverLacksRoom machine) step.entries step.went
 
-  spent-so : (entries : List Entry) → AreNotes entries → (fills : Bool) → machine.fills s input now ≡ fills
-      → IsSo (NeverFills machine) entries (spent_for fills)
+  spent-so : (entries : List Entry) → AreNotes entries → (lacks_room : Bool)
+      → machine.lacks_room s input now ≡ lacks_room
+      → IsSo (NeverLacksRoom machine) entries (spent_for lacks_room)
   spent-so entries are false is =
-      only-notes (NeverFills machine) entries answer.NumbersSpent are (λ is. cc) (λ is. cc) (λ never is. cc)
+      only-notes (NeverLacksRoom machine) entries answer.NumbersSpent are (λ is. cc) (λ is. cc) (λ never is. cc)
   spent-so entries are true is =
-      only-notes (NeverFills machine) entries answer.JournalFull are (λ is. cc) (λ is. cc)
+      only-notes (NeverLacksRoom machine) entries answer.JournalFull are (λ is. cc) (λ is. cc)
       (λ never full. let not = sym is ∙ never s input now in absurd (cc))
 
   made-so : (left : Reach) (went : Went S Happening) → IsSoStep (made machine side now left input s ways went)
   made-so left (Goes step) =
-      only-notes (NeverFills machine) (entries_of side now (step.notes ++ wrote step.written)) answer.Went
+      only-notes (NeverLacksRoom machine) (entries_of side now (step.notes ++ wrote step.written)) answer.Went
       (noted-notes now side (step.notes ++ wrote step.written) [] tt) (λ is. cc) (λ is. cc) (λ never is. cc)
   made-so left (Spent step) =
-      spent-so (entries_of side now step.notes) (noted-notes now side step.notes [] tt) (machine.fills s input now) refl
+      spent-so (entries_of side now step.notes) (noted-notes now side step.notes [] tt)
+      (machine.lacks_room s input now) refl
 
   stopped-so : (entries : List Entry) → AreNotes entries → (is_lost : Bool)
-      → IsSo (NeverFills machine) entries (stopped_for side is_lost)
+      → IsSo (NeverLacksRoom machine) entries (stopped_for side is_lost)
   stopped-so entries are true =
-      only-notes (NeverFills machine) entries (answer.PowerLost side) are (λ is. cc) (λ is. cc) (λ never is. cc)
+      only-notes (NeverLacksRoom machine) entries (answer.PowerLost side) are (λ is. cc) (λ is. cc) (λ never is. cc)
   stopped-so entries are false =
-      only-notes (NeverFills machine) entries answer.Turns are (λ is. cc) (λ is. cc) (λ never is. cc)
+      only-notes (NeverLacksRoom machine) entries answer.Turns are (λ is. cc) (λ is. cc) (λ never is. cc)
 
   by-so : (passed : Passing S) → IsSoStep (made_by machine side now choice input s ways passed)
   by-so (Passes left) = made-so left (machine.act s input now)
@@ -171,7 +173,7 @@ module _ {S C : Type 0} (machine : Machine S C) (side : Side) (now : ℕ) (reach
 
 module _ {S T : Type 0} (e : Machine S ToolCommand) (h : Machine T HostCommand) where
   abbrev NoStores : Type 0
-  NoStores = NeverFills e × NeverFills h
+  NoStores = NeverLacksRoom e × NeverLacksRoom h
 
   abbrev pub IsSoPiece : Piece S T → Type 0
   IsSoPiece piece = IsSo NoStores piece.entries piece.went
@@ -231,7 +233,7 @@ module _ {S T : Type 0} (e : Machine S ToolCommand) (h : Machine T HostCommand) 
       go : (b : Bool) → IsSoPiece (if b then turned_out world else with_equipment e h world step)
       go true = out-keeps world
       go false =
-          of-both (NeverFills e) NoStores step.entries step.went (λ both. both.0)
+          of-both (NeverLacksRoom e) NoStores step.entries step.went (λ both. both.0)
           (step-so e Equipment world.moment world.reach world.choice input world.equipment world.ways)
 
   host-keeps : (input : Input HostCommand) → Keeps (host_stepped e h input)
@@ -243,7 +245,7 @@ module _ {S T : Type 0} (e : Machine S ToolCommand) (h : Machine T HostCommand) 
       go : (b : Bool) → IsSoPiece (if b then turned_out world else with_host e h world step)
       go true = out-keeps world
       go false =
-          of-both (NeverFills h) NoStores step.entries step.went (λ both. both.1)
+          of-both (NeverLacksRoom h) NoStores step.entries step.went (λ both. both.1)
           (step-so h Host world.moment world.host_reach world.choice input world.host world.ways)
 
   given-keeps : (side : Side) → Keeps (given e h side)
@@ -408,7 +410,7 @@ module _ {S T : Type 0} (e : Machine S ToolCommand) (h : Machine T HostCommand) 
       (run-powered e h equipment host events)
 
   -- with no store of an end's own none is full
-  pub not-full : (equipment : Step S Happening) (host : Step T Happening) (events : List Event) → NeverFills e
-      → NeverFills h → (piece_of e h equipment host events).went ≢ answer.JournalFull
+  pub not-full : (equipment : Step S Happening) (host : Step T Happening) (events : List Event) → NeverLacksRoom e
+      → NeverLacksRoom h → (piece_of e h equipment host events).went ≢ answer.JournalFull
   not-full equipment host events none none_there =
       (run-so equipment host events).not_full (none, none_there)

@@ -256,7 +256,7 @@ module _ {S T : Type 0}
       → (made machine side now left input s ways went).went ≡ answer.PowerLost whose → ⊥
   made-powered machine side now left input s ways (Goes step) whose is = absurd (cc)
   made-powered machine side now left input s ways (Spent step) whose is =
-      early-powered (machine.fills s input now) whose is
+      early-powered (machine.lacks_room s input now) whose is
 
   -- in which its disk has stopped it
   abbrev stopped_cut :

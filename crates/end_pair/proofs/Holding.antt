@@ -11,46 +11,33 @@ use Rattle.line_schedule.specs.declared.event.Event.TheVariants as event
 use Rattle.line_way.specs.declared.character.Character.{Character}
 use Rattle.line_way.specs.Kept.{direction_to}
 use Rattle.line_way.specs.Ways.{Ways, characters_of, is_under_way, next_byte}
-use Rattle.line_end.specs.State.{LineState, new_state}
-use Rattle.line_end.specs.declared.plan.Times.{Times}
-use Rattle.message_flow.specs.declared.message.Message.{Message}
 use Rattle.message_end.specs.Core.{Step, Went}
-use Rattle.message_end.specs.Core.Went.{Goes, Spent}
-use Rattle.message_end.specs.Doings.{Doing, IsInTurn, line_of, own_of}
-use Rattle.message_end.specs.Doings.Doing.{Says}
-use Rattle.message_end.specs.Ends.{HasRestarted, Input, KeepsLaw, Machine, MayTake, OnStart}
+use Rattle.message_end.specs.Core.Went.{Goes}
+use Rattle.message_end.specs.Doings.{Doing}
+use Rattle.message_end.specs.Ends.{Input, KeepsLaw, Machine, MayTake}
 use Rattle.message_end.specs.Ends.Input.{Char, Command, Time}
 use Rattle.message_end.specs.Log.{log_of}
-use Rattle.message_end.specs.Moves.{IsHigher, IsNextByte, KeepLaws, LinePlans, Move, Run, line_of_moves, plan_at, run_at, seen_at}
-use Rattle.message_end.specs.Own.{Has, drawn_in}
-use Rattle.message_end.specs.Plan.{EndPlan}
-use Rattle.message_end.specs.Starts.{IsStartOf}
-use Rattle.trace_log.specs.Laws.{log_with}
+use Rattle.message_end.specs.Moves.{IsNextByte, LinePlans, Move, line_of_moves, plan_at, seen_at}
 use Rattle.trace_log.specs.Log.{Entry, Happening}
-use Rattle.trace_log.specs.Log.Happening.{Power}
 use Rattle.trace_log.specs.declared.commands.HostCommand.{HostCommand}
 use Rattle.trace_log.specs.declared.commands.ToolCommand.{ToolCommand}
 use Rattle.end_pair.specs.declared.answers.WorldStep.{WorldStep}
 use Rattle.end_pair.specs.declared.answers.WorldStep.TheVariants as answer
 use Rattle.end_pair.specs.Kept.{MayHappen}
-use Rattle.end_pair.specs.InSteps.{AreAtStates, power_at, started_at}
-use Rattle.end_pair.specs.InSteps.AreSteps.{both_start, starts_anew}
-use Rattle.end_pair.specs.InSteps.ComeInSteps.{without_power}
+use Rattle.end_pair.specs.InSteps.{AreAtStates}
 use Rattle.end_pair.specs.Laws.{AreNoNotes, HasBytes, IsOfMoves}
 use Rattle.end_pair.specs.Run.{piece_of}
-use Rattle.end_pair.specs.Steps.{entries_of}
-use Rattle.end_pair.specs.World.{EndAt, Piece, World, added_to, after_event, after_events, again, and_more, and_on, armed, at_start, begun, both_stepped, changed_at, darkened, ended_by, equipment_stepped, given, given_next, given_times, happened, host_stepped, later, lost, lost_from, met, planned, restart_of, settled, settled_times, started_anew, still, timed, way_to, with_started, without}
+use Rattle.end_pair.specs.World.{EndAt, Piece, World, added_to, after_event, after_events, again, and_more, and_on, armed, at_start, begun, both_stepped, changed_at, ended_by, equipment_stepped, given, given_next, given_times, happened, host_stepped, later, lost, lost_from, met, planned, restart_of, settled, settled_times, still, timed, way_to, without}
 use Rattle.end_pair.proofs.ByteWays.{AreByteCharacters, AreByteWays, bytes-to}
 use Rattle.end_pair.proofs.Doing.{IsNext}
 use Rattle.end_pair.proofs.DoingMoves.{IsAt}
-use Rattle.end_pair.proofs.LineDeeds.{new-stands}
 use Rattle.end_pair.proofs.EndedSteps.{cut-at-once}
 use Rattle.end_pair.proofs.Fallen.{lost-between}
 use Rattle.end_pair.proofs.Fates as fates
 use Rattle.end_pair.proofs.HeldSteps as held
 use Rattle.end_pair.proofs.Moved.{HasLostAll}
-use Rattle.message_end.proofs.LineKept.{side-kept, times-kept}
 use Rattle.end_pair.proofs.Renamed.{IsLike, renamed_all}
+use Rattle.end_pair.proofs.Starting as starting
 
 module _ {S T : Type 0}
     (did_e : ℕ → List Doing → S → Type 0) (did_h : ℕ → List Doing → T → Type 0)
@@ -93,6 +80,20 @@ module _ {S T : Type 0}
   abbrev same_moves :
       (log other : List Entry) → other ≡ log → IsOfMoves did_e did_h plans log → IsOfMoves did_e did_h plans other
   same_moves = held.same_moves did_e did_h tool user first_e first_h e h plans law_e law_h
+
+  -- the lemmas of `Starting`
+  again-keeps : (side : Side) (world : World S T) (moves : List Move) → Fallen side world moves
+      → Good (again e h side world) (log_of moves)
+  again-keeps = starting.again-keeps did_e did_h tool user first_e first_h e h plans law_e law_h
+
+  abbrev started : List Move
+  started = starting.started did_e did_h tool user first_e first_h e h plans law_e law_h
+
+  start-holds : Holds (at_start e h first_e first_h).world started
+  start-holds = starting.start-holds did_e did_h tool user first_e first_h e h plans law_e law_h
+
+  start-log : (at_start e h first_e first_h).entries ≡ log_of started
+  start-log = starting.start-log did_e did_h tool user first_e first_h e h plans law_e law_h
 
   goes-still : Keeps still
   goes-still = held.goes-still did_e did_h tool user first_e first_h e h plans law_e law_h
@@ -220,164 +221,6 @@ module _ {S T : Type 0}
           lost-between did_h user first_h h Host plans law_h world.moment moves world.host world.ways holds.made.host
           holds.stands
 
-  -- that is noted
-  abbrev with_power : Side → ℕ → List Move → List Move
-  with_power side now moves = power_at side now ∷ moves
-
-  -- and it starts anew
-  abbrev with_start : Side → ℕ → Happening → ℕ → List Move → List Move
-  with_start side now note base moves = started_at side now note base ∷ with_power side now moves
-
-  keep-power : (side : Side) (world : World S T) (moves : List Move) (now : ℕ) → Fallen side world moves
-      → KeepLaws plans (with_power side now moves)
-  keep-power side world moves now fallen = (
-    (
-      (subst (λ (m : Option Message). IsInTurn m (Says Power)) (sym fallen.lost.received) tt, tt),
-      tt,
-    ),
-    fallen.keep,
-  )
-
-  -- the state of its line then
-  fresh-state : (plan : EndPlan) (doings : List Doing) (s : LineState) → s ≡ line_of plan doings
-      → new_state s.side s.times ≡ line_of plan []
-  fresh-state plan doings s is =
-      ap (λ (l : LineState). new_state l.side l.times) is
-      ∙ ap (λ (side : Side). new_state side (line_of plan doings).times) (side-kept plan doings)
-      ∙ ap (λ (times : Times). new_state plan.side times) (times-kept plan doings)
-
-  -- both ends then
-  record AreStarted (side : Side) (world : World S T) (moves : List Move) : Type 0 where
-    equipment : IsAt did_e Equipment plans moves world.equipment
-    host : IsAt did_h Host plans moves world.host
-    bytes : AreByteWays world.ways
-
-  are-started :
-      (side : Side) (world : World S T) (moves : List Move) (note : Happening) (base : ℕ) (end : EndAt side S T)
-      → Fallen side world moves → did_at side base [] end
-      → AreStarted side (with_started e h side end (darkened side world))
-      (with_start side world.moment note base moves)
-  are-started Equipment world moves note base end fallen is = record {
-    equipment = record {
-      is = is;
-      state =
-          fresh-state (plan_at Equipment plans) (run_at Equipment plans moves).doings
-          (seen_at Equipment plans moves).here.state fallen.lost.state;
-    };
-    host = record { is = fallen.other.is; state = fallen.other.state };
-    bytes = (tt, tt);
-  }
-  are-started Host world moves note base end fallen is = record {
-    equipment = record { is = fallen.other.is; state = fallen.other.state };
-    host = record {
-      is = is;
-      state =
-          fresh-state (plan_at Host plans) (run_at Host plans moves).doings (seen_at Host plans moves).here.state
-          fallen.lost.state;
-    };
-    bytes = (tt, tt);
-  }
-
-  -- and its numbers lie above all that were drawn before
-  is-higher :
-      (side : Side) (moves : List Move) (now base : ℕ) → (run_at side plans moves).base ≤ base
-      → ((drawn : ℕ) → Has (drawn_in (own_of (plan_at side plans) (run_at side plans moves).doings)) drawn
-      → drawn < base)
-      → IsHigher (plan_at side plans) (run_at side plans (with_power side now moves)) base
-  is-higher Equipment moves now base least above = record { least = least; above = above }
-  is-higher Host moves now base least above = record { least = least; above = above }
-
-  plan-side : (side : Side) → (plan_at side plans).side ≡ side
-  plan-side Equipment = refl
-  plan-side Host = refl
-
-  again-keeps : (side : Side) (world : World S T) (moves : List Move) → Fallen side world moves
-      → Good (again e h side world) (log_of moves)
-  again-keeps side world moves fallen = go (restart_of e h side world) fallen.lost.starts
-    where
-      now : ℕ
-      now = world.moment
-
-      run : Run
-      run = run_at side plans moves
-
-      go : (went : Went (EndAt side S T) Happening)
-          → OnStart (HasRestarted (plan_at side plans) (did_at side) run.base run.doings) went
-          → Good (started_anew e h side (darkened side world) went) (log_of moves)
-      go (Spent step) none = record {
-        of = record {
-          moves = with_power side now moves;
-          keep = keep-power side world moves now fallen;
-          timely = (tt, fallen.timely);
-          no_slip = fallen.clean;
-          steps = without_power moves fallen.before side now refl fallen.cut fallen.steps;
-          last = [];
-          at_most_one = omega arith;
-          no_notes = tt;
-          is = ap (λ (notes : List Happening). entries_of side now (Power ∷ notes) ++ log_of moves) none;
-        };
-        on = λ on. cc;
-        fallen = λ whose lost. cc;
-      }
-      go (Goes step) starts = record {
-        of =
-            with_last all started.equipment started.host []
-            (entries_of side now (Power ∷ step.notes) ++ log_of moves) made_so (omega arith) tt log;
-        on = λ on. (refl, record { made = made_so; stands = fallen.lost.dark; bytes = at.bytes });
-        fallen = λ whose lost. cc;
-      }
-        where
-          note : Happening
-          note = starts.started.note
-
-          base : ℕ
-          base = starts.started.base
-
-          all : List Move
-          all = with_start side now note base moves
-
-          starts_so : IsStartOf side note base
-          starts_so =
-              subst (λ (which : Side). IsStartOf which note base) (plan-side side) starts.started.of_side
-
-          started : World S T
-          started = with_started e h side step.next (darkened side world)
-
-          above : (drawn : ℕ) → Has (drawn_in (own_of (plan_at side plans) run.doings)) drawn → drawn < base
-          above drawn has =
-              let low = starts.above drawn has in
-              let least = starts.started.above in
-              omega (arith, low, least)
-
-          least : run.base ≤ base
-          least =
-              let low = starts.no_lower in
-              let least = starts.started.above in
-              omega (arith, low, least)
-
-          at : AreStarted side started all
-          at = are-started side world moves note base step.next fallen starts.started.is
-
-          made_so : AreMade all started.equipment started.host
-          made_so = record {
-            keep = (
-              (starts.started.of_side, is-higher side moves now base least above),
-              keep-power side world moves now fallen,
-            );
-            timely = (tt, (tt, fallen.timely));
-            clean = (refl, fallen.clean);
-            equipment = at.equipment;
-            host = at.host;
-            steps =
-                starts_anew all moves fallen.before side now note base refl starts_so fallen.cut
-                (at-states all started.equipment started.host at.equipment at.host) fallen.steps;
-          }
-
-          log : entries_of side now (Power ∷ step.notes) ++ log_of moves ≡ log_of all
-          log =
-              ap (λ (notes : List Happening). entries_of side now (Power ∷ notes) ++ log_of moves)
-              starts.started.notes
-
   timed-keeps : (side : Side) → Keeps (timed e h side)
   timed-keeps Equipment world moves holds = equipment-keeps Time tt world moves holds tt
   timed-keeps Host world moves holds = host-keeps Time tt world moves holds tt
@@ -499,54 +342,7 @@ module _ {S T : Type 0}
       (events-keep events (λ k d within. may (suc k) d (omega (arith, within)))
       (λ k d within. bytes (suc k) d (omega (arith, within))))
 
-  -- ---- the start
-
-  abbrev started : List Move
-  started =
-      started_at Host 0 law_h.starts.note law_h.starts.base
-      ∷ started_at Equipment 0 law_e.starts.note law_e.starts.base ∷ []
-
-  start-holds : Holds (at_start e h first_e first_h).world started
-  start-holds = record {
-    made =
-        record {
-          keep = (
-            (law_h.starts.of_side, record { least = omega arith; above = λ drawn has. absurd has }),
-            (
-              (law_e.starts.of_side, record { least = omega arith; above = λ drawn has. absurd has }),
-              tt,
-            ),
-          );
-          timely = (tt, (tt, tt));
-          clean = (refl, (refl, tt));
-          equipment = equipment;
-          host = host;
-          steps =
-              both_start started law_e.starts.note law_h.starts.note law_e.starts.base law_h.starts.base refl
-              law_e.starts.of_side law_h.starts.of_side
-              (at-states started first_e.next first_h.next equipment host);
-        };
-    stands = record {
-      name = λ n. n;
-      is = record { rises = λ a b less. less; next = λ n least. refl };
-      stands = new-stands plans.equipment.times plans.host.times law_e.fits.times law_h.fits.times;
-    };
-    bytes = (tt, tt);
-  }
-    where
-      equipment : IsAt did_e Equipment plans started first_e.next
-      equipment = record { is = law_e.starts.is; state = refl }
-
-      host : IsAt did_h Host plans started first_h.next
-      host = record { is = law_h.starts.is; state = refl }
-
-  start-log : (at_start e h first_e first_h).entries ≡ log_of started
-  start-log =
-      ap (λ (ns : List Happening). log_with 0 Host ns (log_with 0 Equipment first_e.notes [])) law_h.starts.notes
-      ∙ ap
-      (λ (ns : List Happening).
-      log_with 0 Host (law_h.starts.note ∷ []) (log_with 0 Equipment ns []))
-      law_e.starts.notes
+  -- ---- the whole run
 
   pub run-is : (events : List Event) → All (MayHappen tool user loses host_loses) events → All HasBytes events
       → Good (piece_of e h first_e first_h events) []

@@ -23,6 +23,7 @@ pub mod Powered
 pub mod Progress
 pub mod Renamed
 pub mod Restarting
+pub mod Starting
 pub mod Stepping
 pub mod Texts
 pub mod Times

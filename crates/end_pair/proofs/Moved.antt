@@ -27,6 +27,7 @@ use Rattle.message_end.specs.LineCalls.{calls_in}
 use Rattle.message_end.specs.Moves.{AreTimely, KeepLaws, LinePlans, Move, deeds_of, Run, line_of_moves, plan_at, run_at, seen_at}
 use Rattle.message_end.specs.Own.{whole_in}
 use Rattle.message_end.proofs.Fronts.{noted-behind}
+use Rattle.message_end.proofs.Starts.{AreSaidAtStart, said-calls, said-dropped}
 use Rattle.trace_log.specs.Laws.{log_with}
 use Rattle.trace_log.specs.Log.{Entry, Happening}
 use Rattle.trace_log.specs.Log.Happening.{Wrote}
@@ -152,6 +153,28 @@ module _ {S C : Type 0} (did : ℕ → List Doing → S → Type 0) (takes : C �
         log-done side now done moves ∙ ap (λ (ns : List Happening). log_with now side ns (log_of moves)) same
         ∙ log_with-behind now side noted [] (log_of moves);
   }
+
+  -- what an end says behind its start
+  pub said-moves :
+      (now : ℕ) (moves : List Move) (next : S) (said : List Doing) → AreSaidAtStart said → KeepLaws plans moves
+      → AreTimely moves → HasNoSlip (new_line plans.equipment.times plans.host.times) (deeds_of moves)
+      → (seen_at side plans moves).here.state ≡ line_of (plan_at side plans) (run_at side plans moves).doings
+      → did (run_at side plans moves).base (said ++ (run_at side plans moves).doings) next
+      → AreMoves did side plans now moves next (noted_in said) said
+  said-moves now moves next said are keep timely clean state is =
+      are-moves now moves next said (noted_in said) keep timely clean is (said-dropped now said are)
+      (are-done (plan_at side plans) run.base side line run.doings said state
+      (law.keeps run.base (said ++ run.doings) next is).lawful on)
+      on (subst (λ (cs : List LineCall). HasNoSlip line (deeds_by side cs)) (sym (said-calls said are)) tt) refl
+    where
+      run : Run
+      run = run_at side plans moves
+
+      line : Line
+      line = line_of_moves plans moves
+
+      on : AreOnWay side line (calls_in said)
+      on = subst (AreOnWay side line) (sym (said-calls said are)) tt
 
   -- a step's doings on the line
   record IsStepping (line : Line) (doings done : List Doing) (step : Step S Happening) : Type 0 where
@@ -427,6 +450,6 @@ module _ {S C : Type 0} (did : ℕ → List Doing → S → Type 0) (takes : C �
         no_notes = tt;
         entries = refl;
         how = inr (of-cut-step input now more.done more.calls more.ends);
-        ended = λ on. absurd (never-early (machine.fills s input now) on);
-        on = λ on. absurd (never-early (machine.fills s input now) on);
+        ended = λ on. absurd (never-early (machine.lacks_room s input now) on);
+        on = λ on. absurd (never-early (machine.lacks_room s input now) on);
       }

@@ -7,7 +7,7 @@ use Rattle.line_schedule.specs.declared.event.Event.TheVariants as event
 use Rattle.line_way.specs.Ways.{characters_of, is_under_way, next_byte}
 use Rattle.message_end.specs.Core.{Step, Went, step_in}
 use Rattle.message_end.specs.Core.Went.{Goes, Spent}
-use Rattle.message_end.specs.Course.{Course, noted_behind, notes_of}
+use Rattle.message_end.specs.Course.{noted_behind}
 use Rattle.message_end.specs.Course.Course.{Reached}
 use Rattle.message_end.specs.Ends.{Input, Machine}
 use Rattle.message_end.specs.Ends.Input.{Char, Command, Time}
@@ -18,11 +18,11 @@ use Rattle.trace_log.specs.declared.commands.HostCommand.{HostCommand}
 use Rattle.trace_log.specs.declared.commands.ToolCommand.{ToolCommand}
 use Rattle.end_pair.specs.declared.answers.WorldStep.{WorldStep}
 use Rattle.end_pair.specs.declared.answers.WorldStep.TheVariants as answer
-use Rattle.end_pair.specs.Noted.{AreOfCourses, AreTimesOf, TimedNotes, noted_by, timed_behind, timed_by}
+use Rattle.end_pair.specs.Noted.{AreOfCourses, TimedNotes, noted_by, timed_behind, timed_by}
 use Rattle.end_pair.specs.Run.{closing, log_of, piece_of}
 use Rattle.end_pair.specs.Steps.{Stepped, entries_of}
 use Rattle.end_pair.specs.World.{EndAt, Piece, World, added_to, after_event, after_events, again, and_more, and_on, armed, at_start, begun, both_stepped, changed_at, darkened, ended_by, equipment_makes, equipment_stepped, given, given_next, given_times, happened, host_makes, host_stepped, later, lost_from, met, most_steps, planned, settled, settled_times, started_anew, still, timed, turned_out, way_to, with_equipment, with_host, with_started, without}
-use Rattle.end_pair.proofs.EndNoting.{HasAgain, HasNoted, IsAsNoted, IsBroken, IsNoted, IsReached, again-broken, again-goes, again-noted, again-reached, behind-other, noted-other, noted-own, other-entries, own-entries, reached-noted, stays-reached, step-noted, timed-entries, timed-other, timed-own}
+use Rattle.end_pair.proofs.EndNoting.{HasAgain, HasNoted, IsAsNoted, IsBroken, IsNoted, IsReached, again-broken, again-goes, again-noted, again-reached, behind-other, noted-other, noted-own, other-entries, reached-noted, stays-reached, step-noted, timed-other, timed-own}
 use Rattle.end_pair.proofs.Causes.{by-cause}
 use Rattle.end_pair.proofs.Powered.{run-powered}
 

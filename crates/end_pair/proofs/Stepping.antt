@@ -108,12 +108,12 @@ module _ {S C : Type 0} (machine : Machine S C) (side : Side) (now : ℕ) (reach
 
   -- ---- it ends early
 
-  pub spent_step : NotesAreLines → slips machine side now input s ways ≡ false → IsPassed passed → (fills : Bool)
-      (out : StepOut) → HasSpent (machine.act s input now) out → machine.fills s input now ≡ fills
+  pub spent_step : NotesAreLines → slips machine side now input s ways ≡ false → IsPassed passed → (lacks_room : Bool)
+      (out : StepOut) → HasSpent (machine.act s input now) out → machine.lacks_room s input now ≡ lacks_room
       → (old lines : List ℕ) (result : WorldStep)
-      → Puts (spent_for fills) (flat_map (note_line now side) out.notes) old lines result
+      → Puts (spent_for lacks_room) (flat_map (note_line now side) out.notes) old lines result
       → Leaves here old lines result
-  spent_step law none all fills out spent is old lines result puts = go passed refl all
+  spent_step law none all lacks_room out spent is old lines result puts = go passed refl all
     where
       go : (how : Passing S) → passed ≡ how → IsPassed how → Leaves here old lines result
       go (Passes left) whole all =
@@ -121,7 +121,7 @@ module _ {S C : Type 0} (machine : Machine S C) (side : Side) (now : ℕ) (reach
           (sym (stepped-made none left whole (Spent spent.step) spent.is))
           (subst (λ (b : Bool). Puts (spent_for b) (text_of (entries_of side now spent.step.notes)) old lines result)
           (sym is)
-          (subst (λ (t : List ℕ). Puts (spent_for fills) t old lines result)
+          (subst (λ (t : List ℕ). Puts (spent_for lacks_room) t old lines result)
           (ap (flat_map (note_line now side)) spent.notes ∙ sym (noted_text law side now spent.step.notes)) puts))
       go (Cuts loss) is all = absurd all
       go (Lacks loss) is all = absurd all
@@ -226,7 +226,8 @@ stop_never side is_lost P text old lines answer.JournalFull puts = tt
 stop_never side is_lost P text old lines answer.NoMemory puts = tt
 
 -- nor does what ends early, and its power isn't lost
-pub spent_never : (fills : Bool) (P : Type 0) (Q : Side → Type 0) (text old lines : List ℕ) (result : WorldStep)
-    → Puts (spent_for fills) text old lines result → IfLeft result P Q
-spent_never fills P Q text old lines result puts =
-    left_no_more P Q (spent_for fills) text old lines result (never-early fills) (early-powered fills) puts
+pub spent_never : (lacks_room : Bool) (P : Type 0) (Q : Side → Type 0) (text old lines : List ℕ) (result : WorldStep)
+    → Puts (spent_for lacks_room) text old lines result → IfLeft result P Q
+spent_never lacks_room P Q text old lines result puts =
+    left_no_more P Q (spent_for lacks_room) text old lines result (never-early lacks_room) (early-powered lacks_room)
+    puts

@@ -10,7 +10,7 @@ use Rattle.message_end.specs.InStep.{EndsOnce, HasNoEnd}
 use Rattle.message_end.specs.LineCalls.{calls_in}
 use Rattle.message_end.specs.Moves.{Kind, LinePlans, Move, run_at}
 use Rattle.message_end.specs.Moves.Kind.{Added, Changed, Did, Lost, Started}
-use Rattle.message_end.specs.Starts.{IsStartOf}
+use Rattle.message_end.specs.Starts.{AreOfStart, IsStartOf}
 use Rattle.trace_log.specs.Log.{Happening}
 use Rattle.trace_log.specs.Log.Happening.{Power, Wrote}
 
@@ -47,6 +47,11 @@ moves_with side moment (doing ∷ before) moves =
 
 abbrev pub started_at : Side → ℕ → Happening → ℕ → Move
 started_at side moment note base = record { side = side; moment = moment; kind = Started note base }
+
+-- an end starts, and notes at once what it says behind that, the newest of this first
+abbrev pub starts_with : Side → ℕ → Happening → ℕ → List Doing → List Move → List Move
+starts_with side moment note base said moves =
+    moves_with side moment said (started_at side moment note base ∷ moves)
 
 -- the world notes that an end has lost its power
 abbrev pub power_at : Side → ℕ → Move
@@ -88,10 +93,10 @@ pub data AreSteps {S T : Type 0}
     (equipment : ℕ → List Doing → S → Type 0) (host : ℕ → List Doing → T → Type 0) (plans : LinePlans)
     : List Move → Type 0 where
   both_start :
-      (moves : List Move) (note note_there : Happening) (base base_there : ℕ)
-      → moves ≡ started_at Host 0 note_there base_there ∷ started_at Equipment 0 note base ∷ []
-      → IsStartOf Equipment note base → IsStartOf Host note_there base_there
-      → AreAtStates equipment host plans moves → AreSteps equipment host plans moves
+      (moves : List Move) (note note_there : Happening) (base base_there : ℕ) (said said_there : List Doing)
+      → moves ≡ starts_with Host 0 note_there base_there said_there (starts_with Equipment 0 note base said [])
+      → IsStartOf Equipment note base → IsStartOf Host note_there base_there → AreOfStart said
+      → AreOfStart said_there → AreAtStates equipment host plans moves → AreSteps equipment host plans moves
   one_step :
       (moves before : List Move) (side : Side) (moment : ℕ) (done : List Doing)
       → moves ≡ moves_with side moment done before → AreOfWholeStep moment done
@@ -102,9 +107,10 @@ pub data AreSteps {S T : Type 0}
       → moves ≡ record { side = side; moment = moment; kind = kind } ∷ before → IsFate kind
       → AreSteps equipment host plans before → AreSteps equipment host plans moves
   starts_anew :
-      (moves cut before : List Move) (side : Side) (moment : ℕ) (note : Happening) (base : ℕ)
-      → moves ≡ started_at side moment note base ∷ power_at side moment ∷ cut → IsStartOf side note base
-      → IsCutBehind equipment host plans side moment before cut → AreAtStates equipment host plans moves
+      (moves cut before : List Move) (side : Side) (moment : ℕ) (note : Happening) (base : ℕ) (said : List Doing)
+      → moves ≡ starts_with side moment note base said (power_at side moment ∷ cut) → IsStartOf side note base
+      → AreOfStart said → IsCutBehind equipment host plans side moment before cut
+      → AreAtStates equipment host plans moves
       → AreSteps equipment host plans before → AreSteps equipment host plans moves
 
 -- all moves of a run are such; or the last step is cut short, with which the run ends; or so it is with the end's loss

@@ -89,16 +89,16 @@ RunsEndFiveWays E H =
     → let piece = piece_of e h equipment host events in
     EndsOneWay piece.went (whole_log piece)
 
--- in no step does an end find no room in its own store for what it must put
-abbrev pub NeverFills : {S C : Type 0} → Machine S C → Type 0
-NeverFills {S} {C} machine = (s : S) (input : Input C) (now : ℕ) → machine.fills s input now ≡ false
+-- no step of an end ends for want of room in a store of its own
+abbrev pub NeverLacksRoom : {S C : Type 0} → Machine S C → Type 0
+NeverLacksRoom {S} {C} machine = (s : S) (input : Input C) (now : ℕ) → machine.lacks_room s input now ≡ false
 
 -- so no run of two such ends is ended by a full store
 abbrev pub NeverFull : Type 0 → Type 0 → Type 0
 NeverFull E H =
     (e : Machine E ToolCommand) (h : Machine H HostCommand) (equipment : Step E Happening)
     (host : Step H Happening) (events : List Event)
-    → NeverFills e → NeverFills h → went_of e h equipment host events ≢ JournalFull
+    → NeverLacksRoom e → NeverLacksRoom h → went_of e h equipment host events ≢ JournalFull
 
 -- it comes to the call of its disk at which its power is to go, and there was room for those before
 abbrev pub IsCutShort : {S C : Type 0} → Machine S C → Side → ℕ → Reach → Input C → S → Ways → Type 0
@@ -136,10 +136,10 @@ pub record EndsByCause {S C : Type 0}
       ↔ LacksRoom machine side now reach input s ways
   pub spent :
       (stepped machine side now reach choice input s ways).went ≡ NumbersSpent
-      ↔ (EndsEarly machine side now reach input s ways × (machine.fills s input now ≡ false))
+      ↔ (EndsEarly machine side now reach input s ways × (machine.lacks_room s input now ≡ false))
   pub full :
       (stepped machine side now reach choice input s ways).went ≡ JournalFull
-      ↔ (EndsEarly machine side now reach input s ways × (machine.fills s input now ≡ true))
+      ↔ (EndsEarly machine side now reach input s ways × (machine.lacks_room s input now ≡ true))
   pub no_other : (stepped machine side now reach choice input s ways).went ≢ NoMemory
   pub no_other_end :
       (other : Side) → (stepped machine side now reach choice input s ways).went ≡ PowerLost other → other ≡ side

@@ -49,8 +49,8 @@ slip_of side now ways =
 abbrev pub entries_of : Side → ℕ → List Happening → List Entry
 entries_of side now noted = log_with now side noted []
 
--- what ends a step early: the end's own store has no room for what it must put, or its numbers are spent
-abbrev pub spent_for : (fills : Bool) → WorldStep
+-- what ends a step early: it lacks room in the end's own store, or else numbers
+abbrev pub spent_for : (lacks_room : Bool) → WorldStep
 spent_for true = answer.JournalFull
 spent_for false = answer.NumbersSpent
 
@@ -68,7 +68,7 @@ made machine side now left input s ways (Spent step) = record {
   end = step.next;
   ways = ways;
   entries = entries_of side now step.notes;
-  went = spent_for (machine.fills s input now);
+  went = spent_for (machine.lacks_room s input now);
   reach = left;
 }
 

@@ -55,7 +55,7 @@ sender = record {
   act = λ s input now. sends s input now;
   restart = λ s now. Goes (record { next = s; notes = []; written = [] });
   line = λ s. s.line;
-  fills = λ s input now. false;
+  lacks_room = λ s input now. false;
   stops = λ s input now. [];
   start_stops = [];
   asks = λ s input now. none_asked;
@@ -137,7 +137,7 @@ counter side = record {
   restart =
       λ s now. Goes (record { next = record s { awake = 0 }; notes = counts_on side s.count ∷ []; written = [] });
   line = λ s. new_state side (times_with 3);
-  fills = λ s input now. false;
+  lacks_room = λ s input now. false;
   stops = λ s input now. [];
   start_stops = [];
   asks = λ s input now. counter_asks s.awake;
@@ -155,7 +155,7 @@ counts_from side = record { next = record { count = 0; awake = 1 }; notes = coun
 abbrev pub full_counter : {C : Type 0} → Machine Counter C
 full_counter = record (counter Host) {
   act = λ s input now. Spent (record { next = s; notes = []; written = [] });
-  fills = λ s input now. true;
+  lacks_room = λ s input now. true;
 }
 
 abbrev pub counters_with : Machine Counter HostCommand → List Event → Piece Counter Counter
@@ -236,7 +236,7 @@ pub record WorkedHostLosses : Type 0 where
       ∷ Noted 10 Equipment (Stored 0) ∷ Noted 5 Equipment (EquipmentStarted [] 0) ∷ Noted 5 Equipment Power
       ∷ Noted 5 Equipment (Gone 0) ∷ []
   pub no_turn : (counters_after crowding).went ≡ answer.Turns
-  -- a step that fills its store ends the run, where its disk isn't stopped before
+  -- a step that lacks room in its store ends the run, where its disk isn't stopped before
   pub full : (counters_with full_counter (event.Wait 5 ∷ [])).went ≡ answer.JournalFull
   pub lost :
       (counters_with full_counter (event.HostCut 1 New ∷ event.Wait 5 ∷ [])).entries

@@ -35,8 +35,8 @@ pub fn never_full<E: End<Command = ToolCommand>, H: End<Command = HostCommand>>(
 {}
 
 /// A step of an end ends a run exactly where a slip is found before it, where it comes to a call that its disk has no
-/// room for, where the end's own store has no room for what it must put, or where the end was to draw a number and had
-/// none; and its end, and no other, loses its power exactly where it comes to the call of its disk that is planned.
+/// room for, where it lacks room in the end's own store, or where the end was to draw a number and had none; and its
+/// end, and no other, loses its power exactly where it comes to the call of its disk that is planned.
 pub fn steps_end_by_cause<E: End>()
     ensures { StepsEndByCause E.State E.Command }
 {}

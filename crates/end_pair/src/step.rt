@@ -58,7 +58,7 @@ pub(crate) fn start_end<E: End>(
         Err(Stop::NoMemory) => return Err(NoMemory),
         Err(Stop::DiskFailed) => unreachable!("no start is stopped by its disk"),
         Err(Stop::NumbersSpent) => unreachable!("there are numbers to start with"),
-        Err(Stop::Full) => unreachable!("no start fills a store"),
+        Err(Stop::Full) => unreachable!("no start puts into a store"),
     };
     let Ok(()) = put_notes(0, side, out.notes.as_slice(), lines) else {
         return Err(NoMemory);
@@ -167,7 +167,7 @@ pub(crate) fn restart_end<E: End>(
         Err(Stop::NumbersSpent) => {
             return put_spent(now, side, false, out.notes.as_slice(), lines);
         }
-        Err(Stop::Full) => unreachable!("no start fills a store"),
+        Err(Stop::Full) => unreachable!("no start puts into a store"),
         Err(Stop::DiskFailed) => unreachable!("no start is stopped by its disk"),
         Err(Stop::NoMemory) => return WorldStep::NoMemory,
     }
@@ -223,12 +223,18 @@ fn put_slipped(now: u64, side: Side, slip: &Slip, lines: &mut Row<u8>) -> WorldS
     }
 }
 
-// Puts the lines of a step that has ended early: it was to fill the end's own store, or its numbers were spent.
-fn put_spent(now: u64, side: Side, fills: bool, notes: &[Note], lines: &mut Row<u8>) -> WorldStep
-    ensures puts { Puts (spent_for fills) (flat_map (note_line now side) notes.now) lines.old lines.new result }
+// Puts the lines of a step that has ended early: it lacked room in the end's own store, or numbers.
+fn put_spent(
+    now: u64,
+    side: Side,
+    lacks_room: bool,
+    notes: &[Note],
+    lines: &mut Row<u8>,
+) -> WorldStep
+    ensures puts { Puts (spent_for lacks_room) (flat_map (note_line now side) notes.now) lines.old lines.new result }
 {
     match put_notes(now, side, notes, lines) {
-        Ok(()) if fills => WorldStep::JournalFull,
+        Ok(()) if lacks_room => WorldStep::JournalFull,
         Ok(()) => WorldStep::NumbersSpent,
         Err(NoMemory) => WorldStep::NoMemory,
     }

@@ -8,7 +8,7 @@ use Rattle.message_flow.specs.declared.step.StepOut.{StepOut}
 use Rattle.end_run.specs.declared.ending.Ending.{Ending}
 use Rattle.end_run.specs.declared.ending.Ending.TheVariants as ending
 use Rattle.end_run.specs.Calls.{Left, TurnedTold}
-use Rattle.end_run.specs.Commands.{IsTaken, Telling, as_it_comes, behind_first, first_of}
+use Rattle.end_run.specs.Commands.{IsTaken, Telling, as_it_comes}
 use Rattle.end_run.specs.Commands.Telling.{IsOther, Says, Stops, Tells}
 use Rattle.end_run.specs.Outcome.{ByWhatComes, ComesOver, Runs}
 use Rattle.end_run.specs.Pieces.{Piece, and_more}
@@ -16,7 +16,7 @@ use Rattle.end_run.specs.Scenes.{Scene, StopAt}
 use Rattle.end_run.specs.Steps.{all_told, tells}
 use Rattle.end_run.specs.Told.{Brings, GoesBy, IfNext, IsNext, MayCome}
 use Rattle.end_run.proofs.Doing.{Leads, runs_behind}
-use Rattle.end_run.proofs.Polling.{IsPolled, polled_as, polled_first, polled_on, polled_out, polled_over, polls}
+use Rattle.end_run.proofs.Polling.{IsPolled, polled_on, polled_out, polled_over, polls}
 use Rattle.end_run.proofs.Stepping.{part_none}
 
 -- ---- what may come

@@ -23,22 +23,24 @@ counts_behind {F} a b c result none more =
 
 -- a step without a disk
 pub counts_no_disk :
-    {S : Type 0} (fills : Bool) (went : Went S Happening) (next : S) (out : StepOut) (result : Result (Unit {0}) Stop)
-    → Leaves [] fills went next out result → StepCounts no_device no_device result
-counts_no_disk fills went next out (Ok done) leaves = refl
-counts_no_disk fills went next out (Err stop.NumbersSpent) leaves = refl
-counts_no_disk fills went next out (Err stop.Full) leaves = refl
-counts_no_disk fills went next out (Err stop.NoMemory) leaves = refl
-counts_no_disk fills went next out (Err stop.DiskFailed) halt = absurd halt.may
+    {S : Type 0} (lacks_room : Bool) (went : Went S Happening) (next : S) (out : StepOut)
+    (result : Result (Unit {0}) Stop)
+    → Leaves [] lacks_room went next out result → StepCounts no_device no_device result
+counts_no_disk lacks_room went next out (Ok done) leaves = refl
+counts_no_disk lacks_room went next out (Err stop.NumbersSpent) leaves = refl
+counts_no_disk lacks_room went next out (Err stop.Full) leaves = refl
+counts_no_disk lacks_room went next out (Err stop.NoMemory) leaves = refl
+counts_no_disk lacks_room went next out (Err stop.DiskFailed) halt = absurd halt.may
 
 pub uses_no_disk :
-    {S : Type 0} (fills : Bool) (went : Went S Happening) (next : S) (out : StepOut) (result : Result (Unit {0}) Stop)
-    → Leaves [] fills went next out result → Uses none_asked none_asked none_asked result
-uses_no_disk fills went next out (Ok done) leaves = record { calls = omega arith; bytes = omega arith }
-uses_no_disk fills went next out (Err stop.NumbersSpent) leaves = tt
-uses_no_disk fills went next out (Err stop.Full) leaves = tt
-uses_no_disk fills went next out (Err stop.NoMemory) leaves = tt
-uses_no_disk fills went next out (Err stop.DiskFailed) halt = absurd halt.may
+    {S : Type 0} (lacks_room : Bool) (went : Went S Happening) (next : S) (out : StepOut)
+    (result : Result (Unit {0}) Stop)
+    → Leaves [] lacks_room went next out result → Uses none_asked none_asked none_asked result
+uses_no_disk lacks_room went next out (Ok done) leaves = record { calls = omega arith; bytes = omega arith }
+uses_no_disk lacks_room went next out (Err stop.NumbersSpent) leaves = tt
+uses_no_disk lacks_room went next out (Err stop.Full) leaves = tt
+uses_no_disk lacks_room went next out (Err stop.NoMemory) leaves = tt
+uses_no_disk lacks_room went next out (Err stop.DiskFailed) halt = absurd halt.may
 
 -- nothing but the output was called
 abbrev pub before_call : {F : Type 0} → ℕ → Device F → SinkTold → Counted F

@@ -1,18 +1,14 @@
 -- Pieces of a run as the code carries them out, one behind the other.
-use Rattle.std.proofs.Common.{◌≡◌, Bool, true, false, List, [], ◌++◌, Option, Some, None, refl, sym, ap, subst, ◌∙◌, append_assoc, append-nil}
+use Rattle.std.proofs.Common.{◌≡◌, List, [], ◌++◌, Option, Some, None, refl, sym, ap, subst, ◌∙◌, append_assoc, append-nil}
 use Rattle.end_run.specs.declared.ending.Ending.{Ending}
 use Rattle.end_run.specs.declared.ending.Ending.TheVariants.{Closed, DiskFailed, Full, LinkFailed, NoMemory, NumbersSpent, Stopped, Turns, WriteFailed}
 use Rattle.end_run.specs.Acts.{Act}
-use Rattle.end_run.specs.Outcome.{Did, DiskFails, Does, IsSpentFor, LinkFails, Made, MadePart, Runs, WriteFails}
+use Rattle.end_run.specs.Outcome.{Did, DiskFails, Does, IsSpent, LinkFails, Made, MadePart, Runs, WriteFails}
 use Rattle.end_run.specs.Pieces.{Piece, and_more, and_on, behind, still}
 use Rattle.end_run.specs.Scenes.{Scene}
 use Rattle.end_run.proofs.Joining.{did_both, did_none, disk_before, disk_behind, link_before, link_behind, made_both, part_before, part_behind, spent_behind, write_before, write_behind}
 
 module _ {S C : Type 0} {a b : Scene S C} (c : Scene S C) (first : List (Act S C)) (one : Did a b first) where
-  spent_on : (fills : Bool) (second : List (Act S C)) → IsSpentFor fills b c second
-      → IsSpentFor fills a c (first ++ second)
-  spent_on fills second two = (spent_behind c first second one second two.0, two.1)
-
   -- more acts were to be done
   pub does_behind : (how : Option Ending) (second : List (Act S C)) (result : Option Ending)
       → Does b c how second result
@@ -22,13 +18,13 @@ module _ {S C : Type 0} {a b : Scene S C} (c : Scene S C) (first : List (Act S C
   does_behind how second (Some Closed) two = (two.0, did_both c first second one two.1)
   does_behind how second (Some Turns) two = (two.0, did_both c first second one two.1)
   does_behind how second (Some NumbersSpent) two =
-      (two.0, made_both c first second second one.made two.1, spent_on false second two.2)
+      (two.0, made_both c first second second one.made two.1, spent_behind c first second one how second two.2)
   does_behind how second (Some Full) two =
-      (two.0, made_both c first second second one.made two.1, spent_on true second two.2)
+      (two.0, made_both c first second second one.made two.1, spent_behind c first second one how second two.2)
   does_behind how second (Some DiskFailed) two = disk_behind c first second one two
   does_behind how second (Some LinkFailed) two = link_behind c first second one two
-  does_behind how second (Some WriteFailed) two = write_behind c first second one two
-  does_behind how second (Some NoMemory) two = part_behind c first second one two
+  does_behind how second (Some WriteFailed) two = write_behind c first second one how two
+  does_behind how second (Some NoMemory) two = part_behind c first second one how two
 
   pub runs_behind : (piece : Piece S C) (result : Option Ending) → Runs b c piece result
       → Runs a c (behind first piece) result
@@ -54,13 +50,13 @@ runs_stop {S} {C} a b first more how one = go how one
     exact how is did =
         subst (λ (piece : Piece S C). (piece.ended ≡ Some how) × Did a b piece.acts) (sym (same how is)) (is, did)
 
-    spent : (fills : Bool) (how : Ending) → first.ended ≡ Some how → Made a b first.acts
-        → IsSpentFor fills a b first.acts
+    spent : (how : Ending) → first.ended ≡ Some how → Made a b first.acts → IsSpent first.ended a b first.acts
         → ((and_more first more).ended ≡ Some how) × Made a b (and_more first more).acts
-        × IsSpentFor fills a b (and_more first more).acts
-    spent fills how is made at =
+        × IsSpent (and_more first more).ended a b (and_more first more).acts
+    spent how is made at =
         subst
-        (λ (piece : Piece S C). (piece.ended ≡ Some how) × Made a b piece.acts × IsSpentFor fills a b piece.acts)
+        (λ (piece : Piece S C).
+        (piece.ended ≡ Some how) × Made a b piece.acts × IsSpent piece.ended a b piece.acts)
         (sym (same how is)) (is, made, at)
 
     with_more : (P : List (Act S C) → Type 0) → P first.acts → ((second : List (Act S C)) → P (first.acts ++ second))
@@ -68,20 +64,28 @@ runs_stop {S} {C} a b first more how one = go how one
     with_more P all cut None = cut (more first.end).acts
     with_more P all cut (Some how) = all
 
+    with_later : (P : Piece S C → Type 0) → P first
+        → (first.ended ≡ None → (later : Piece S C) → P (behind first.acts later)) → (ended : Option Ending)
+        → first.ended ≡ ended → P (and_on ended first more)
+    with_later P all cut None on = cut on (more first.end)
+    with_later P all cut (Some how) on = all
+
     go : (how : Ending) → Runs a b first (Some how) → Runs a b (and_more first more) (Some how)
     go Stopped one = exact Stopped one.0 one.1
     go Closed one = exact Closed one.0 one.1
     go Turns one = exact Turns one.0 one.1
-    go NumbersSpent one = spent false NumbersSpent one.0 one.1 one.2
-    go Full one = spent true Full one.0 one.1 one.2
+    go NumbersSpent one = spent NumbersSpent one.0 one.1 one.2
+    go Full one = spent Full one.0 one.1 one.2
     go DiskFailed one =
         with_more (λ acts. DiskFails a b acts) one (λ second. disk_before a b first.acts second one) first.ended
     go LinkFailed one =
         with_more (λ acts. LinkFails a b acts) one (λ second. link_before a b first.acts second one) first.ended
     go WriteFailed one =
-        with_more (λ acts. WriteFails a b acts) one (λ second. write_before a b first.acts second one) first.ended
+        with_later (λ piece. WriteFails piece.ended a b piece.acts) one
+        (λ on later. write_before a b first.acts later.acts first.ended later.ended on one) first.ended refl
     go NoMemory one =
-        with_more (λ acts. MadePart a b acts) one (λ second. part_before a b first.acts second one) first.ended
+        with_later (λ piece. MadePart piece.ended a b piece.acts) one
+        (λ on later. part_before a b first.acts later.acts first.ended later.ended on one) first.ended refl
 
 -- a piece went on, and more was to be done
 pub runs_more :

@@ -10,10 +10,12 @@ use Rattle.gl_base.proofs.Appending.{wrote_both, wrote_nothing}
 use Rattle.message_end.specs.Ends.{Asked, IsLeft as LeavesRoom, IsShort, asked_both, none_asked}
 use Rattle.trace_log.specs.Log.{Entry}
 use Rattle.trace_log.specs.Text.{text_of}
+use Rattle.end_run.specs.declared.ending.Ending.{Ending}
 use Rattle.end_run.specs.Acts.{Act, StepAt, AreTimely, asked_by, end_by, end_with, lines_of, list_of, listed, moment_by, moment_with, taken, taken_of, written_in}
 use Rattle.end_run.specs.Acts.Act.{Connects, Polls, Sends, Stands, Writes}
 use Rattle.end_run.specs.Outcome.{Did, DiskFails, GoesOn, HasListed, IsLeft, IsSpent, LacksMemory, LinkFails, Linked, Lists, Made, MadePart, PutsLast, WriteFails}
 use Rattle.end_run.specs.Scenes.{Scene, StopAt, written}
+use Rattle.end_run.specs.Steps.{spent_for}
 
 -- ---- lists of acts
 
@@ -255,8 +257,9 @@ module _ {S C : Type 0} {a b : Scene S C} (c : Scene S C) (first second : List (
       stop = two.stop ∙ one.stop;
     }
 
-    abbrev pub spent_behind : (more : List (Act S C)) → IsSpent b c more → IsSpent a c (first ++ more)
-    spent_behind more two = record {
+    abbrev pub spent_behind :
+        (how : Option Ending) (more : List (Act S C)) → IsSpent how b c more → IsSpent how a c (first ++ more)
+    spent_behind how more two = record {
       first = first ++ two.first;
       at = two.at;
       stops = two.stops;
@@ -265,7 +268,8 @@ module _ {S C : Type 0} {a b : Scene S C} (c : Scene S C) (first second : List (
       whole = ap (λ (acts : List (Act S C)). first ++ acts) two.whole ∙ sym (append_assoc first two.first _);
       before = left_both a.end b.end two.at.state first two.first one.end two.before;
       out = two.out;
-      fills = two.fills;
+      lacks_room = two.lacks_room;
+      ended = two.ended;
       stop = two.stop;
     }
 
@@ -282,8 +286,8 @@ module _ {S C : Type 0} {a b : Scene S C} (c : Scene S C) (first second : List (
       stop = two.stop;
     }
 
-    pub part_behind : MadePart b c second → MadePart a c (first ++ second)
-    part_behind two = record {
+    pub part_behind : (how : Option Ending) → MadePart how b c second → MadePart how a c (first ++ second)
+    part_behind how two = record {
       done = first ++ two.done;
       later = two.later;
       whole = ap (λ (acts : List (Act S C)). first ++ acts) two.whole ∙ sym (append_assoc first two.done two.later);
@@ -291,11 +295,11 @@ module _ {S C : Type 0} {a b : Scene S C} (c : Scene S C) (first second : List (
       end = ends two.end;
     }
       where
-        ends : GoesOn b c two.done ⊎ (IsSpent b c two.done ⊎ LacksMemory b c two.done two.later)
+        ends : GoesOn b c two.done ⊎ (IsSpent how b c two.done ⊎ LacksMemory b c two.done two.later)
             → GoesOn a c (first ++ two.done)
-            ⊎ (IsSpent a c (first ++ two.done) ⊎ LacksMemory a c (first ++ two.done) two.later)
+            ⊎ (IsSpent how a c (first ++ two.done) ⊎ LacksMemory a c (first ++ two.done) two.later)
         ends (inl goes) = inl (goes_behind two.done goes)
-        ends (inr (inl spent)) = inr (inl (spent_behind two.done spent))
+        ends (inr (inl spent)) = inr (inl (spent_behind how two.done spent))
         ends (inr (inr lacks)) = inr (inr (lacks_behind two.done two.later lacks))
 
     pub link_behind : LinkFails b c second → LinkFails a c (first ++ second)
@@ -322,8 +326,8 @@ module _ {S C : Type 0} {a b : Scene S C} (c : Scene S C) (first second : List (
             ∙ ap length (append_assoc (list_of first) (list_of two.done) (listed two.failed))
             ∙ length-append (list_of first) (list_of two.done ++ listed two.failed)
 
-    pub write_behind : WriteFails b c second → WriteFails a c (first ++ second)
-    write_behind two = record {
+    pub write_behind : (how : Option Ending) → WriteFails how b c second → WriteFails how a c (first ++ second)
+    write_behind how two = record {
       done = first ++ two.done;
       entries = two.entries;
       text = two.text;
@@ -340,10 +344,10 @@ module _ {S C : Type 0} {a b : Scene S C} (c : Scene S C) (first second : List (
       end = ends two.end;
     }
       where
-        ends : GoesOn b c two.done ⊎ IsSpent b c two.done
-            → GoesOn a c (first ++ two.done) ⊎ IsSpent a c (first ++ two.done)
+        ends : GoesOn b c two.done ⊎ IsSpent how b c two.done
+            → GoesOn a c (first ++ two.done) ⊎ IsSpent how a c (first ++ two.done)
         ends (inl goes) = inl (goes_behind two.done goes)
-        ends (inr spent) = inr (spent_behind two.done spent)
+        ends (inr spent) = inr (spent_behind how two.done spent)
 
         rest : List ℕ
         rest = take two.count two.text
@@ -385,8 +389,16 @@ module _ {S C : Type 0} {a b : Scene S C} (c : Scene S C) (first second : List (
 -- ---- with more acts behind, which weren't done
 
 module _ {S C : Type 0} (a b : Scene S C) (first second : List (Act S C)) where
-  pub part_before : MadePart a b first → MadePart a b (first ++ second)
-  part_before one = record {
+  -- none of acts with which nothing was to end has ended early
+  not_spent : (how : Option Ending) (done : List (Act S C)) → how ≡ None → IsSpent how a b done → ⊥
+  not_spent how done on spent = none_some (spent_for spent.lacks_room) (sym on ∙ spent.ended)
+    where
+      none_some : (ended : Ending) → None ≡ Some ended → ⊥
+      none_some ended is = cc
+
+  pub part_before :
+      (how more : Option Ending) → how ≡ None → MadePart how a b first → MadePart more a b (first ++ second)
+  part_before how more on one = record {
     done = one.done;
     later = one.later ++ second;
     whole = ap (λ (acts : List (Act S C)). acts ++ second) one.whole ∙ append_assoc one.done one.later second;
@@ -394,10 +406,10 @@ module _ {S C : Type 0} (a b : Scene S C) (first second : List (Act S C)) where
     end = ends one.end;
   }
     where
-      ends : GoesOn a b one.done ⊎ (IsSpent a b one.done ⊎ LacksMemory a b one.done one.later)
-          → GoesOn a b one.done ⊎ (IsSpent a b one.done ⊎ LacksMemory a b one.done (one.later ++ second))
+      ends : GoesOn a b one.done ⊎ (IsSpent how a b one.done ⊎ LacksMemory a b one.done one.later)
+          → GoesOn a b one.done ⊎ (IsSpent more a b one.done ⊎ LacksMemory a b one.done (one.later ++ second))
       ends (inl goes) = inl goes
-      ends (inr (inl spent)) = inr (inl spent)
+      ends (inr (inl spent)) = absurd (not_spent how one.done on spent)
       ends (inr (inr lacks)) = inr (inr (record {
         at = lacks.at;
         stops = lacks.stops;
@@ -425,8 +437,9 @@ module _ {S C : Type 0} (a b : Scene S C) (first second : List (Act S C)) where
     end = one.end;
   }
 
-  pub write_before : WriteFails a b first → WriteFails a b (first ++ second)
-  write_before one = record {
+  pub write_before :
+      (how more : Option Ending) → how ≡ None → WriteFails how a b first → WriteFails more a b (first ++ second)
+  write_before how more on one = record {
     done = one.done;
     entries = one.entries;
     text = one.text;
@@ -438,8 +451,12 @@ module _ {S C : Type 0} (a b : Scene S C) (first second : List (Act S C)) where
     short = one.short;
     received = one.received;
     fault = one.fault;
-    end = one.end;
+    end = ends one.end;
   }
+    where
+      ends : GoesOn a b one.done ⊎ IsSpent how a b one.done → GoesOn a b one.done ⊎ IsSpent more a b one.done
+      ends (inl goes) = inl goes
+      ends (inr spent) = absurd (not_spent how one.done on spent)
 
   pub disk_before : DiskFails a b first → DiskFails a b (first ++ second)
   disk_before one = record {

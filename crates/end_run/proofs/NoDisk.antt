@@ -64,17 +64,17 @@ module _ {S C Q : Type 0} (machine : Machine S C) (due : S → Option ℕ) (comm
   sends-on [] = tt
   sends-on (byte ∷ bytes) = tt
 
-  made-on : (at : StepAt S C) (stops : List (List Happening)) (asked : Asked) (fills : Bool) (reply : List ℕ)
-      (went : Went S Happening) → stops ≡ [] → GoOn (made at stops asked fills reply went).acts
-  made-on at stops asked fills reply (Goes step) none =
+  made-on : (at : StepAt S C) (stops : List (List Happening)) (asked : Asked) (lacks_room : Bool) (reply : List ℕ)
+      (went : Went S Happening) → stops ≡ [] → GoOn (made at stops asked lacks_room reply went).acts
+  made-on at stops asked lacks_room reply (Goes step) none =
       (ap (map (entries_at at.side at.moment)) none, sends-on step.written)
-  made-on at stops asked fills reply (Spent step) none = (ap (map (entries_at at.side at.moment)) none, tt)
+  made-on at stops asked lacks_room reply (Spent step) none = (ap (map (entries_at at.side at.moment)) none, tt)
 
   replied-on : (reply : List ℕ) (now : ℕ) (input : Input C) (s : S)
       → GoOn (replied machine side reply now input s).acts
   replied-on reply now input s =
       made-on (step_at side now input s) (machine.stops s input now) (machine.asks s input now)
-      (machine.fills s input now) reply (machine.act s input now) (nowhere s input now)
+      (machine.lacks_room s input now) reply (machine.act s input now) (nowhere s input now)
 
   stepped-on : (now : ℕ) (input : Input C) (s : S) → GoOn (stepped machine side now input s).acts
   stepped-on = replied-on []

@@ -58,16 +58,16 @@ module _ {S C : Type 0} (machine : Machine S C) (side : Side) where
   sends-none [] = refl
   sends-none (byte ∷ bytes) = refl
 
-  made-none : (at : StepAt S C) (stops : List (List Happening)) (asked : Asked) (fills : Bool) (reply : List ℕ)
-      (went : Went S Happening) → taken_of (made at stops asked fills reply went).acts ≡ []
-  made-none at stops asked fills reply (Goes step) = sends-none step.written
-  made-none at stops asked fills reply (Spent step) = refl
+  made-none : (at : StepAt S C) (stops : List (List Happening)) (asked : Asked) (lacks_room : Bool) (reply : List ℕ)
+      (went : Went S Happening) → taken_of (made at stops asked lacks_room reply went).acts ≡ []
+  made-none at stops asked lacks_room reply (Goes step) = sends-none step.written
+  made-none at stops asked lacks_room reply (Spent step) = refl
 
   replied-none : (reply : List ℕ) (now : ℕ) (input : Input C) (s : S)
       → taken_of (replied machine side reply now input s).acts ≡ []
   replied-none reply now input s =
       made-none (step_at side now input s) (machine.stops s input now) (machine.asks s input now)
-      (machine.fills s input now) reply (machine.act s input now)
+      (machine.lacks_room s input now) reply (machine.act s input now)
 
   pub stepped-none : (now : ℕ) (input : Input C) (s : S) → taken_of (stepped machine side now input s).acts ≡ []
   stepped-none = replied-none []

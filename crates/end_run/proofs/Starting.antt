@@ -1,5 +1,5 @@
 -- The start of a run.
-use Rattle.std.proofs.Common.{◌≡◌, ℕ, List, [], ◌∷◌, ◌++◌, append-nil, Option, Some, None, refl, sym, ap, subst, ◌∙◌}
+use Rattle.std.proofs.Common.{◌≡◌, ℕ, List, [], ◌∷◌, ◌++◌, append-nil, Option, Some, None, refl, sym, subst, ◌∙◌}
 use Rattle.gl_base.specs.Link.{IsCarriedOn, LinkContents, LinkFault, LinkHealth}
 use Rattle.gl_base.specs.Sending.{WroteText}
 use Rattle.gl_base.specs.Sink.{SinkHealth}

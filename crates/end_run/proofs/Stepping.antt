@@ -6,7 +6,7 @@ use Rattle.std.proofs.lemmas.List.{length-map}
 use Rattle.std.proofs.lemmas.List.Elements.{filter_map-append}
 use Rattle.gl_base.specs.Link.{IsCarriedOn, LinkContents, LinkFault, LinkHealth, entries_of, told_after_send}
 use Rattle.gl_base.specs.Sending.{WroteShort, WroteText}
-use Rattle.gl_base.specs.Sink.{SinkHealth, WriteFault, with_bytes}
+use Rattle.gl_base.specs.Sink.{SinkHealth}
 use Rattle.gl_base.specs.Told.{SinkTold}
 use Rattle.gl_base.specs.declared.link.LinkEntry.{LinkEntry}
 use Rattle.gl_base.specs.declared.link.LinkEntry.TheVariants.{Sent}
@@ -52,7 +52,7 @@ step_text law side now noted written =
 -- ---- nothing but writing
 
 -- nothing was done, and memory ran out
-pub part_none : {S C : Type 0} (a : Scene S C) (acts : List (Act S C)) → MadePart a a acts
+pub part_none : {S C : Type 0} {how : Option Ending} (a : Scene S C) (acts : List (Act S C)) → MadePart how a a acts
 part_none a acts = record {
   done = [];
   later = acts;
@@ -84,8 +84,8 @@ module _ {S C : Type 0} (a : Scene S C) (r' : Option (List ℕ)) (k' : SinkHealt
     pub wrote_did : WroteText (written a (with_out a r' k')) text → Did a (with_out a r' k') (Writes entries text ∷ [])
     wrote_did text_wrote = record { made = wrote_made text_wrote; end = refl; room = room_none a.room; stop = refl }
 
-    pub short_fails : (more : List (Act S C)) → WroteShort (written a (with_out a r' k')) text
-        → WriteFails a (with_out a r' k') (Writes entries text ∷ more)
+    pub short_fails : {how : Option Ending} (more : List (Act S C)) → WroteShort (written a (with_out a r' k')) text
+        → WriteFails how a (with_out a r' k') (Writes entries text ∷ more)
     short_fails more short = record {
       done = [];
       entries = entries;
@@ -102,8 +102,8 @@ module _ {S C : Type 0} (a : Scene S C) (r' : Option (List ℕ)) (k' : SinkHealt
     }
 
     -- nothing was written, for want of memory
-    pub none_wrote : (more : List (Act S C)) → WroteText (written a (with_out a r' k')) []
-        → MadePart a (with_out a r' k') (Writes entries text ∷ more)
+    pub none_wrote : {how : Option Ending} (more : List (Act S C)) → WroteText (written a (with_out a r' k')) []
+        → MadePart how a (with_out a r' k') (Writes entries text ∷ more)
     none_wrote more none = record {
       done = [];
       later = Writes entries text ∷ more;
@@ -238,28 +238,20 @@ puts_last a end room stop r' k' text (inr (inl short)) =
 puts_last a end room stop r' k' text (inr (inr none)) = inr (inr none)
 
 -- what ends a step early, by how the run ends with it
-by_numbers : (fills : Bool) → spent_for fills ≡ NumbersSpent → fills ≡ false
-by_numbers true is = absurd (cc)
-by_numbers false is = refl
-
-by_store : (fills : Bool) → spent_for fills ≡ Full → fills ≡ true
-by_store true is = refl
-by_store false is = absurd (cc)
-
-never_stops : (fills : Bool) → spent_for fills ≡ Stopped → ⊥
+never_stops : (lacks_room : Bool) → spent_for lacks_room ≡ Stopped → ⊥
 never_stops true is = absurd (cc)
 never_stops false is = absurd (cc)
 
-never_closes : (fills : Bool) → spent_for fills ≡ Closed → ⊥
+never_closes : (lacks_room : Bool) → spent_for lacks_room ≡ Closed → ⊥
 never_closes true is = absurd (cc)
 never_closes false is = absurd (cc)
 
-never_turns : (fills : Bool) → spent_for fills ≡ Turns → ⊥
+never_turns : (lacks_room : Bool) → spent_for lacks_room ≡ Turns → ⊥
 never_turns true is = absurd (cc)
 never_turns false is = absurd (cc)
 
 module _ {S C : Type 0} (law : NotesAreLines) (at : StepAt S C) (stops : List (List Happening)) (asked : Asked)
-    (fills : Bool) (reply : List ℕ) (went : Went S Happening) (out : StepOut) where
+    (lacks_room : Bool) (reply : List ℕ) (went : Went S Happening) (out : StepOut) where
   -- it goes on, and its lines are these
   gone_text : (next : S) (gone : HasGone went next out)
       → text_of (entries_at at.side at.moment (gone.step.notes ++ wrote gone.step.written))
@@ -279,11 +271,11 @@ module _ {S C : Type 0} (law : NotesAreLines) (at : StepAt S C) (stops : List (L
       ≡ flat_map (note_line at.moment at.side) out.notes ++ flat_map (note_line at.moment at.side) (printed
       (wrote out.line.items))
       → Does (with_end a next room a.stop) c None (Writes entries (text_of entries ++ reply) ∷ sends out.line.items) result)
-      → Runs a c (made at stops asked fills reply went) result
+      → Runs a c (made at stops asked lacks_room reply went) result
   gone_runs a c next room gone used result does =
       let entries : List Entry = entries_at at.side at.moment (gone.step.notes ++ wrote gone.step.written) in
       let first : Act S C = stands at stops asked (Some gone.step.next) in
-      subst (λ (went : Went S Happening). Runs a c (made at stops asked fills reply went) result) (sym gone.is)
+      subst (λ (went : Went S Happening). Runs a c (made at stops asked lacks_room reply went) result) (sym gone.is)
       (subst (λ (w : List ℕ). Does a c None (first ∷ Writes entries (text_of entries ++ reply) ∷ sends w) result)
       gone.written
       (does_behind c (first ∷ [])
@@ -292,9 +284,9 @@ module _ {S C : Type 0} (law : NotesAreLines) (at : StepAt S C) (stops : List (L
       (Writes entries (text_of entries ++ reply) ∷ sends out.line.items) result
       (does entries (gone_text next gone))))
 
-  pub gone_end : (next : S) → HasGone went next out → next ≡ (made at stops asked fills reply went).end
+  pub gone_end : (next : S) → HasGone went next out → next ≡ (made at stops asked lacks_room reply went).end
   gone_end next gone =
-      sym gone.next_is ∙ ap (λ (went : Went S Happening). (made at stops asked fills reply went).end) (sym gone.is)
+      sym gone.next_is ∙ ap (λ (went : Went S Happening). (made at stops asked lacks_room reply went).end) (sym gone.is)
 
   -- the end is known behind it
   pub gone_comes :
@@ -306,7 +298,7 @@ module _ {S C : Type 0} (law : NotesAreLines) (at : StepAt S C) (stops : List (L
       ++ flat_map (note_line at.moment at.side) (printed (wrote out.line.items))
       → Does (with_end a next room a.stop) (c None) None
       (Writes entries (text_of entries ++ reply) ∷ sends out.line.items) result)
-      → Comes known left end a c (made at stops asked fills reply went) result
+      → Comes known left end a c (made at stops asked lacks_room reply went) result
   gone_comes known left end a c next room is gone used so None does =
       (gone_runs a (c None) next room gone used None does, so, is ∙ gone_end next gone)
   gone_comes known left end a c next room is gone used so (Some how) does =
@@ -315,14 +307,14 @@ module _ {S C : Type 0} (law : NotesAreLines) (at : StepAt S C) (stops : List (L
   -- memory runs out in it
   pub lacks_memory : (a : Scene S C) → at.state ≡ a.end → (end : S) (room : Asked)
       → Runs a (with_end a end room (Some (record { at = at; out = out; why = stop.NoMemory })))
-      (made at stops asked fills reply went) (Some NoMemory)
+      (made at stops asked lacks_room reply went) (Some NoMemory)
   lacks_memory a here end room = go went
     where
       all : List (List Entry)
       all = map (entries_at at.side at.moment) stops
 
-      lacks : (left : Option S) (more : List (Act S C))
-          → MadePart a (with_end a end room (Some (record { at = at; out = out; why = stop.NoMemory })))
+      lacks : {how : Option Ending} (left : Option S) (more : List (Act S C))
+          → MadePart how a (with_end a end room (Some (record { at = at; out = out; why = stop.NoMemory })))
           (Stands at all asked left ∷ more)
       lacks left more = record {
         done = [];
@@ -344,7 +336,7 @@ module _ {S C : Type 0} (law : NotesAreLines) (at : StepAt S C) (stops : List (L
 
       go : (went : Went S Happening)
           → Runs a (with_end a end room (Some (record { at = at; out = out; why = stop.NoMemory })))
-          (made at stops asked fills reply went) (Some NoMemory)
+          (made at stops asked lacks_room reply went) (Some NoMemory)
       go (Goes step) =
           lacks (Some step.next)
           (notes_at at.side at.moment (step.notes ++ wrote step.written) reply ∷ sends step.written)
@@ -380,7 +372,8 @@ module _ {S C : Type 0} (law : NotesAreLines) (at : StepAt S C) (stops : List (L
           begun : Made a (with_end a end room stop_at) (Stands at all asked None ∷ [])
           begun = made_step a end room stop_at at all asked None
 
-          spent : (more : List (Act S C)) → IsSpent a (stopped (stop_for store)) (Stands at all asked None ∷ more)
+          spent : (more : List (Act S C))
+              → IsSpent (Some (spent_for store)) a (stopped (stop_for store)) (Stands at all asked None ∷ more)
           spent more = record {
             first = [];
             at = at;
@@ -390,7 +383,8 @@ module _ {S C : Type 0} (law : NotesAreLines) (at : StepAt S C) (stops : List (L
             whole = refl;
             before = here;
             out = out;
-            fills = store;
+            lacks_room = store;
+            ended = refl;
             stop = refl;
           }
 
@@ -403,9 +397,8 @@ module _ {S C : Type 0} (law : NotesAreLines) (at : StepAt S C) (stops : List (L
           go : (result : Ending) → EndsWith (written a (with_out a r' k')) text (spent_for store) result
               → Does a (stopped (stop_for store)) (Some (spent_for store))
               (Stands at all asked None ∷ Writes entries text ∷ []) (Some result)
-          go NumbersSpent ends =
-              (ap Some ends.0, done ends.1, (spent (Writes entries text ∷ []), by_numbers store ends.0))
-          go Full ends = (ap Some ends.0, done ends.1, (spent (Writes entries text ∷ []), by_store store ends.0))
+          go NumbersSpent ends = (ap Some ends.0, done ends.1, spent (Writes entries text ∷ []))
+          go Full ends = (ap Some ends.0, done ends.1, spent (Writes entries text ∷ []))
           go WriteFailed short = record {
             done = Stands at all asked None ∷ [];
             entries = entries;
@@ -433,10 +426,10 @@ module _ {S C : Type 0} (law : NotesAreLines) (at : StepAt S C) (stops : List (L
           go DiskFailed ends = absurd ends
           go LinkFailed ends = absurd ends
 
-      pub spent_runs : (store : Bool) → fills ≡ store → (spent : HasSpent went out) (result : Ending)
+      pub spent_runs : (store : Bool) → lacks_room ≡ store → (spent : HasSpent went out) (result : Ending)
           → EndsWith (written a (with_out a r' k')) (flat_map
           (note_line at.moment at.side) out.notes) (spent_for store) result
-          → Runs a (stopped (stop_for store)) (made at stops asked fills reply went) (Some result)
+          → Runs a (stopped (stop_for store)) (made at stops asked lacks_room reply went) (Some result)
       spent_runs store is spent result ends =
           subst (λ (f : Bool). Runs a (stopped (stop_for store)) (made at stops asked f reply went) (Some result)) (sym is)
           (subst
@@ -496,7 +489,7 @@ module _ {S C : Type 0} (law : NotesAreLines) (at : StepAt S C) (stops : List (L
       pub stopped_runs :
           HasStopped stops went out → IsShort a.room asked
           → PutsAsCan (written a (with_out a r' k')) (flat_map (note_line at.moment at.side) out.notes)
-          → Runs a (stopped stop.DiskFailed) (made at stops asked fills reply went) (Some DiskFailed)
+          → Runs a (stopped stop.DiskFailed) (made at stops asked lacks_room reply went) (Some DiskFailed)
       stopped_runs halt short puts = go went halt.first
         where
           front_more : (notes last : List Happening) → IsFront halt.front notes → IsFront halt.front (notes ++ last)
@@ -507,7 +500,7 @@ module _ {S C : Type 0} (law : NotesAreLines) (at : StepAt S C) (stops : List (L
           }
 
           go : (went : Went S Happening) → IsFront halt.front (step_in went).notes
-              → Runs a (stopped stop.DiskFailed) (made at stops asked fills reply went) (Some DiskFailed)
+              → Runs a (stopped stop.DiskFailed) (made at stops asked lacks_room reply went) (Some DiskFailed)
           go (Goes step) first =
               disk_stops halt (Some step.next) (step.notes ++ wrote step.written)
               (text_of (entries_at at.side at.moment (step.notes ++ wrote step.written)) ++ reply) (sends step.written)

@@ -3,7 +3,7 @@ use Rattle.std.proofs.Common.{◌≡◌, ◌≢◌, ℕ, Bool, ◌+◌, ◌<◌,
 use Rattle.std.proofs.lemmas.List.{drop-drop, length-drop}
 use Rattle.std.proofs.lemmas.List.Sums.{prefix_len-le-length}
 use Rattle.gl_base.specs.Events.{moment_after}
-use Rattle.gl_base.specs.Link.{HasPollCause, IsCarriedOn, IsTimely, IsToldAnswer, LinkContents, LinkHealth, told_after_poll}
+use Rattle.gl_base.specs.Link.{HasPollCause, IsCarriedOn, IsToldAnswer, LinkContents, LinkHealth, told_after_poll}
 use Rattle.gl_base.specs.Sink.{SinkHealth}
 use Rattle.gl_base.specs.declared.link.LinkIn.{LinkIn}
 use Rattle.gl_base.specs.declared.link.LinkIn.TheVariants as link

@@ -18,7 +18,7 @@ use Rattle.end_run.specs.Acts.Act.{Connects, Polls, Sends, Stands, Writes}
 use Rattle.end_run.specs.Commands.{Telling}
 use Rattle.end_run.specs.Pieces.{Piece}
 use Rattle.end_run.specs.Scenes.{IsSo, Scene, StopAt, written}
-use Rattle.end_run.specs.Steps.{entries_at}
+use Rattle.end_run.specs.Steps.{entries_at, spent_for}
 use Rattle.end_run.specs.Told.{MayCome}
 
 -- ---- what was done
@@ -67,13 +67,13 @@ pub record GoesOn {S C : Type 0} (a b : Scene S C) (done : List (Act S C)) : Typ
   pub stop : b.stop ≡ a.stop
 
 -- what has ended a step early
-abbrev pub stop_for : (fills : Bool) → Stop
+abbrev pub stop_for : (lacks_room : Bool) → Stop
 stop_for true = stop.Full
 stop_for false = stop.NumbersSpent
 
--- one of these acts ended early, from the state that the acts before have left: it was to fill the end's own store, or
--- its numbers were spent
-pub record IsSpent {S C : Type 0} (a b : Scene S C) (acts : List (Act S C)) : Type 0 where
+-- one of these acts ended early, from the state that the acts before have left: it lacked room in the end's own store,
+-- or else numbers, and with that all that was to be done ends
+pub record IsSpent {S C : Type 0} (how : Option Ending) (a b : Scene S C) (acts : List (Act S C)) : Type 0 where
   pub first : List (Act S C)
   pub at : StepAt S C
   pub stops : List (List Entry)
@@ -82,11 +82,9 @@ pub record IsSpent {S C : Type 0} (a b : Scene S C) (acts : List (Act S C)) : Ty
   pub whole : acts ≡ first ++ Stands at stops asked None ∷ later
   pub before : IsLeft (end_by (Some a.end) first) at.state
   pub out : StepOut
-  pub fills : Bool
-  pub stop : b.stop ≡ Some (record { at = at; out = out; why = stop_for fills })
-
-abbrev pub IsSpentFor : {S C : Type 0} → (fills : Bool) → Scene S C → Scene S C → List (Act S C) → Type 0
-IsSpentFor fills a b acts = (spent : IsSpent a b acts) × (spent.fills ≡ fills)
+  pub lacks_room : Bool
+  pub ended : how ≡ Some (spent_for lacks_room)
+  pub stop : b.stop ≡ Some (record { at = at; out = out; why = stop_for lacks_room })
 
 -- memory ran out in the step that was next, from the state that these acts have left
 pub record LacksMemory {S C : Type 0} (a b : Scene S C) (done later : List (Act S C)) : Type 0 where
@@ -126,7 +124,7 @@ pub record LinkFails {S C : Type 0} (a b : Scene S C) (acts : List (Act S C)) : 
 
 -- a write failed: all that stands before it was done, and only some of its lines, from their front, were written. They
 -- may be those of a step that ended early
-pub record WriteFails {S C : Type 0} (a b : Scene S C) (acts : List (Act S C)) : Type 0 where
+pub record WriteFails {S C : Type 0} (how : Option Ending) (a b : Scene S C) (acts : List (Act S C)) : Type 0 where
   pub done : List (Act S C)
   pub entries : List Entry
   pub text : List ℕ
@@ -138,7 +136,7 @@ pub record WriteFails {S C : Type 0} (a b : Scene S C) (acts : List (Act S C)) :
   pub short : count < length text
   pub received : b.received ≡ with_bytes a.received (lines_of done ++ take count text)
   pub fault : WriteFault a.out b.out (length (lines_of done ++ text))
-  pub end : GoesOn a b done ⊎ IsSpent a b done
+  pub end : GoesOn a b done ⊎ IsSpent how a b done
 
 -- of a text behind these lines a part from the front was written, since the output failed
 pub record PutsShort {S C : Type 0} (a b : Scene S C) (lines text : List ℕ) : Type 0 where
@@ -180,12 +178,12 @@ pub record DiskFails {S C : Type 0} (a b : Scene S C) (acts : List (Act S C)) : 
 
 -- memory ran out: some of the acts, from their front, were done. It ran out behind a step, in one that ended early, or
 -- in the next step
-pub record MadePart {S C : Type 0} (a b : Scene S C) (acts : List (Act S C)) : Type 0 where
+pub record MadePart {S C : Type 0} (how : Option Ending) (a b : Scene S C) (acts : List (Act S C)) : Type 0 where
   pub done : List (Act S C)
   pub later : List (Act S C)
   pub whole : acts ≡ done ++ later
   pub made : Made a b done
-  pub end : GoesOn a b done ⊎ (IsSpent a b done ⊎ LacksMemory a b done later)
+  pub end : GoesOn a b done ⊎ (IsSpent how a b done ⊎ LacksMemory a b done later)
 
 -- ---- all of a run
 
@@ -195,12 +193,12 @@ Does a b how acts None = (how ≡ None) × Did a b acts
 Does a b how acts (Some Stopped) = (how ≡ Some Stopped) × Did a b acts
 Does a b how acts (Some Closed) = (how ≡ Some Closed) × Did a b acts
 Does a b how acts (Some Turns) = (how ≡ Some Turns) × Did a b acts
-Does a b how acts (Some NumbersSpent) = (how ≡ Some NumbersSpent) × Made a b acts × IsSpentFor false a b acts
-Does a b how acts (Some Full) = (how ≡ Some Full) × Made a b acts × IsSpentFor true a b acts
+Does a b how acts (Some NumbersSpent) = (how ≡ Some NumbersSpent) × Made a b acts × IsSpent how a b acts
+Does a b how acts (Some Full) = (how ≡ Some Full) × Made a b acts × IsSpent how a b acts
 Does a b how acts (Some DiskFailed) = DiskFails a b acts
 Does a b how acts (Some LinkFailed) = LinkFails a b acts
-Does a b how acts (Some WriteFailed) = WriteFails a b acts
-Does a b how acts (Some NoMemory) = MadePart a b acts
+Does a b how acts (Some WriteFailed) = WriteFails how a b acts
+Does a b how acts (Some NoMemory) = MadePart how a b acts
 
 -- the same of a piece of a run
 abbrev pub Runs : {S C : Type 0} → Scene S C → Scene S C → Piece S C → Option Ending → Type 0

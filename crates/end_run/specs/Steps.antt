@@ -29,8 +29,8 @@ sends (byte ∷ bytes) = Sends (byte ∷ bytes) ∷ []
 abbrev pub stands : {S C : Type 0} → StepAt S C → List (List Happening) → Asked → Option S → Act S C
 stands at stops asked end = Stands at (map (entries_at at.side at.moment) stops) asked end
 
--- what ends a step early: the end's own store has no room for what it must put, or its numbers are spent
-abbrev pub spent_for : (fills : Bool) → Ending
+-- what ends a step early: it lacks room in the end's own store, or else numbers
+abbrev pub spent_for : (lacks_room : Bool) → Ending
 spent_for true = ending.Full
 spent_for false = ending.NumbersSpent
 
@@ -41,19 +41,19 @@ notes_at side now noted reply = Writes (entries_at side now noted) (text_of (ent
 -- a step is made, its lines are written with the reply behind them, and then its characters are sent; where it ends
 -- early nothing is replied or sent, and the run ends
 abbrev pub made :
-    {S C : Type 0} → StepAt S C → List (List Happening) → Asked → (fills : Bool) → (reply : List ℕ)
+    {S C : Type 0} → StepAt S C → List (List Happening) → Asked → (lacks_room : Bool) → (reply : List ℕ)
     → Went S Happening → Piece S C
-made at stops asked fills reply (Goes step) = record {
+made at stops asked lacks_room reply (Goes step) = record {
   end = step.next;
   acts =
       stands at stops asked (Some step.next)
       ∷ notes_at at.side at.moment (step.notes ++ wrote step.written) reply ∷ sends step.written;
   ended = None;
 }
-made at stops asked fills reply (Spent step) = record {
+made at stops asked lacks_room reply (Spent step) = record {
   end = step.next;
   acts = stands at stops asked None ∷ notes_at at.side at.moment step.notes [] ∷ [];
-  ended = Some (spent_for fills);
+  ended = Some (spent_for lacks_room);
 }
 
 -- the lines of a start are written before the end connects
@@ -75,7 +75,7 @@ module _ {S C : Type 0} (machine : Machine S C) (side : Side) where
   abbrev pub replied : List ℕ → ℕ → Input C → S → Piece S C
   replied reply now input s =
       made (step_at side now input s) (machine.stops s input now) (machine.asks s input now)
-      (machine.fills s input now) reply (machine.act s input now)
+      (machine.lacks_room s input now) reply (machine.act s input now)
 
   abbrev pub stepped : ℕ → Input C → S → Piece S C
   stepped now input s = replied [] now input s

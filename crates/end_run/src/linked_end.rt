@@ -74,7 +74,7 @@ pub trait LinkedEnd {
         requires out { IsEmpty out.old }
         ensures step { known self.old → Leaves
             (machine.stops (means self.old) (input_of input.entry) now)
-            (machine.fills (means self.old) (input_of input.entry) now)
+            (machine.lacks_room (means self.old) (input_of input.entry) now)
             (machine.act (means self.old) (input_of input.entry) now)
             (means self.new)
             out.new

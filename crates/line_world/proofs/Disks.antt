@@ -1,11 +1,9 @@
 -- The run over the spool's disk: it starts on an empty spool.
-use Rattle.std.proofs.Common.{◌≡◌, ◌≢◌, ◌<◌, ◌≤◌, ◌+◌, ◌*◌, ◌^◌, ◌==◌, ◌&&◌, nat_le, ℕ, Bool, false, List, [], ◌∷◌}
-use Rattle.std.proofs.Common.{◌++◌, length, replicate, Option, refl, sym, ap, subst, ◌∙◌, arith}
-use Rattle.std.proofs.lemmas.List.{get_or_past, length-replicate}
+use Rattle.std.proofs.Common.{◌≡◌, ◌≢◌, ◌<◌, ◌≤◌, ◌+◌, ◌*◌, ◌-◌, ◌==◌, ℕ, false, List, [], ◌∷◌}
+use Rattle.std.proofs.Common.{◌++◌, length, length-append, take, replicate, Option, refl, sym, ap, subst, ◌∙◌, arith}
+use Rattle.std.proofs.lemmas.List.{get_or-append_right, get_or-replicate, length-replicate, take-append-le}
 use Rattle.std.proofs.lemmas.List.Folds.{sum_by-replicate}
 use Rattle.std.proofs.lemmas.List.Sums.{sum_by-cons}
-use Rattle.std.proofs.lemmas.Nat.{from_be_bytes-to_be_bytes_4}
-use Rattle.std.specs.Int.{w32, to_be_bytes}
 use Rattle.disk_base.specs.Calls.{DiskCall, sync_call, write_call, written_of}
 use Rattle.disk_base.specs.MemDisk.{DiskState, disk_with}
 use Rattle.disk_base.specs.declared.disk.DiskAnswer.TheVariants.{Done}
@@ -30,15 +28,13 @@ use Rattle.line_schedule.specs.declared.schedule.Schedule.{Schedule}
 use Rattle.message_end.specs.Core.{Step, Went, step_in}
 use Rattle.message_end.specs.Core.Went.{Goes}
 use Rattle.message_end.specs.Ends.{Asked, Opens, most_asked}
-use Rattle.gate_cell.specs.Cell.{copy_of}
-use Rattle.spool_file.specs.Breaks.{list_below, slot_stands}
-use Rattle.spool_file.specs.File.{SpoolFile, file_in, gates_below}
-use Rattle.spool_file.specs.Format.{empty_file}
-use Rattle.spool_file.specs.Front.{magic}
-use Rattle.spool_file.specs.Slot.{Message, Slot, is_open, slot_in, slot_message, slot_place}
-use Rattle.spool_file.specs.declared.slot.Frame.{Frame}
-use Rattle.spool_file.proofs.Areas.{none_there}
-use Rattle.spool_file.proofs.Gates.{shut_gates}
+use Rattle.gate_cell.specs.Cell.{cell_of}
+use Rattle.spool_file.specs.File.{SpoolFile, file_in}
+use Rattle.spool_file.specs.Format.{empty_file, first_page}
+use Rattle.spool_file.specs.Setup.{area_end, setup_cell}
+use Rattle.spool_file.specs.Slot.{Message, is_open, slot_in, slot_place}
+use Rattle.spool_file.proofs.Cleared.{bytes_before}
+use Rattle.spool_file.proofs.Fresh.{empty_stands, page_long, zero_setup}
 use Rattle.spool_slots.specs.Spool.{SpoolView}
 use Rattle.trace_log.specs.Log.{Happening}
 use Rattle.line_world.specs.Disk.{IsEmptySpool}
@@ -78,88 +74,78 @@ first-is plans spool is = ap (λ (went : Went EquipmentView Happening). step_in 
 
 -- ---- a spool whose bytes say so, for laws that speak of no value
 
--- no slot is open where there are no bytes, the copies and the gate of a cell read as 0, and without a gate the version is
--- 2
-abbrev blank_bytes : ℕ → List ℕ
-blank_bytes slots = magic ++ to_be_bytes w32 slots
+-- its first page, and zeros behind that, for the slots and the area
+abbrev zeroed : (slots more : ℕ) → List ℕ
+zeroed slots more = first_page slots ++ replicate more 0
 
-blank-file : (slots : ℕ) → slots < 2 ^ 32 → file_in (blank_bytes slots) ≡ empty_file slots
-unfolding copy_of
-blank-file slots low =
-    ap (λ (n : ℕ). made n (gates_below slot n) (list_below (frame n) slot n)) (from_be_bytes-to_be_bytes_4 slots low)
-    ∙ ap (λ (gates : List Bool). made slots gates (list_below (frame slots) slot slots)) (shut_gates slot slots closed)
-    ∙ ap (λ (list : List Message). made slots (replicate slots false) list)
-    (none_there (slot_stands 0 slot) (slot_message slots slot) slots none)
-  where
-    slot : ℕ → Slot
-    slot k = slot_in (blank_bytes slots) k
+module _ (slots n : ℕ) (some : 1 ≤ slots) (most : slots ≤ 65535) (room : 4096 * slots + 524288 ≤ n) where
+  abbrev bytes : List ℕ
+  bytes = zeroed slots n
 
-    frame : ℕ → Frame
-    frame n = record { version = 2; slots = n; floor = 0 }
+  same : (many : ℕ) → many ≤ 4096 → take many bytes ≡ take many (first_page slots)
+  same many within = take-append-le many (first_page slots) (replicate n 0) (omega (arith, within, page_long slots))
 
-    made : ℕ → List Bool → List Message → SpoolFile
-    made n gates list = record {
-      version = 2;
-      slots = n;
-      gates = gates;
-      mark = record { value = 0; second = false };
-      floor = record { value = 0; second = false };
-      list = list;
-    }
+  long : area_end slots ≤ length bytes
+  long =
+      let behind = length-replicate {A = ℕ} n 0 in
+      omega (arith, length-append (first_page slots) (replicate n 0), page_long slots, behind, room)
 
-    closed : (k : ℕ) → k < slots → is_open (slot k) ≡ false
-    closed k below =
-        let past : 12 ≤ slot_place k = omega arith in
-        ap (λ (byte : ℕ). byte == 90) (get_or_past (blank_bytes slots) (slot_place k) 0 past)
+  closed : (k : ℕ) → k < slots → is_open (slot_in bytes k) ≡ false
+  closed k below =
+      ap (λ (byte : ℕ). byte == 90)
+      (get_or-append_right (first_page slots) (replicate n 0) 4096 (slot_place k) 0 (page_long slots) (omega arith)
+      ∙ get_or-replicate n (slot_place k - 4096) 0 0 (omega (arith, below, room)))
 
-    none : (k : ℕ) → k < slots → slot_stands 0 slot k ≡ false
-    none k below = ap (λ (b : Bool). b && nat_le 0 (slot k).head.number) (closed k below)
+  blank-file : file_in bytes ≡ empty_file slots
+  blank-file =
+      sym (empty_stands bytes slots (same 47 (omega arith)) some most long closed
+      (ap cell_of (bytes_before bytes (first_page slots) 64 (same 64 (omega arith)) setup_cell 17 (omega arith))
+      ∙ zero_setup slots)).is
 
--- as many calls as make a file, which write as many bytes
-abbrev blank_syncs : ℕ → List DiskCall
-blank_syncs slots = replicate (slots + 1) (sync_call Done)
-
-abbrev blank_calls : ℕ → List DiskCall
-blank_calls slots = write_call 0 (replicate (slots + 4096) 0) Done ∷ blank_syncs slots
+-- calls, so many behind one that writes so many bytes
+abbrev blank_calls : (more bytes : ℕ) → List DiskCall
+blank_calls more bytes = write_call 0 (replicate bytes 0) Done ∷ replicate more (sync_call Done)
 
 abbrev asks : ℕ → ℕ → Asked
 asks calls bytes = record { calls = calls; bytes = bytes }
 
-blank-asks : (slots : ℕ) → asks (length (blank_calls slots)) (written_of (blank_calls slots)) ≡ making slots
-blank-asks slots =
-    ap (λ (n : ℕ). asks n (written_of (blank_calls slots))) many ∙ ap (λ (n : ℕ). asks (slots + 2) n) bytes
+blank-asks : (calls more bytes : ℕ) → calls ≡ more + 1
+    → asks (length (blank_calls more bytes)) (written_of (blank_calls more bytes)) ≡ asks calls bytes
+blank-asks calls more bytes is =
+    ap (λ (n : ℕ). asks n (written_of (blank_calls more bytes))) many ∙ ap (λ (n : ℕ). asks calls n) all
   where
-    many : length (blank_calls slots) ≡ slots + 2
-    many = let syncs = length-replicate (slots + 1) (sync_call Done) in omega (arith, syncs)
+    many : length (blank_calls more bytes) ≡ calls
+    many = let syncs = length-replicate more (sync_call Done) in omega (arith, syncs, is)
 
-    none : written_of (blank_syncs slots) ≡ (slots + 1) * 0
-    none = sum_by-replicate (λ (call : DiskCall). length call.bytes) (slots + 1) (sync_call Done)
+    all : written_of (blank_calls more bytes) ≡ bytes
+    all =
+        let sum =
+        sum_by-cons (λ (call : DiskCall). length call.bytes) (write_call 0 (replicate bytes 0) Done)
+        (replicate more (sync_call Done)) in
+        let none = sum_by-replicate (λ (call : DiskCall). length call.bytes) more (sync_call Done) in
+        let page = length-replicate {A = ℕ} bytes 0 in
+        omega (arith, sum, none, page)
 
-    bytes : written_of (blank_calls slots) ≡ slots + 4096
-    bytes =
-        let all =
-        sum_by-cons (λ (call : DiskCall). length call.bytes) (write_call 0 (replicate (slots + 4096) 0) Done)
-        (blank_syncs slots) in
-        let page = length-replicate {A = ℕ} (slots + 4096) 0 in
-        omega (arith, all, page, none)
-
+-- as many calls as make a file, which write as many bytes
 abbrev pub blank_disk : ℕ → DiskState
 blank_disk slots =
-    record (disk_with (blank_bytes slots) most_asked.calls most_asked.bytes (0, 0)) { calls = blank_calls slots }
+    record (disk_with (zeroed slots (4096 * slots + 524288)) most_asked.calls most_asked.bytes (0, 0)) {
+      calls = blank_calls (slots + 33) (slots + 528384);
+    }
 
 abbrev pub blank_spool : ℕ → SpoolView DiskState
 blank_spool slots =
     record { disk = blank_disk slots; version = 2; slots = slots; first = 0; next = 0; len = 0; mark = 0 }
 
-pub blank-empty : (slots : ℕ) → slots ≤ 65535 → IsEmptySpool slots (blank_spool slots)
-blank-empty slots most = record {
+pub blank-empty : (slots : ℕ) → 1 ≤ slots → slots ≤ 65535 → IsEmptySpool slots (blank_spool slots)
+blank-empty slots some most = record {
   first = refl;
-  file = blank-file slots (omega (arith, most));
+  file = blank-file slots (4096 * slots + 524288) some most (omega arith);
   fails_not = refl;
   stops_not = refl;
   going = refl;
   bounded = (refl, refl);
-  asked = blank-asks slots;
+  asked = blank-asks (slots + 34) (slots + 33) (slots + 528384) (omega arith);
 }
 
 -- ---- the run, over the start that the value has

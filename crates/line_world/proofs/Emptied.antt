@@ -47,13 +47,13 @@ pub emptied :
     → HasFitted spool.disk → IsEmptySpool slots spool
 emptied bytes spare slots most spool (made, is, told) fitted =
     let used = made.cause in
-    let low : slots + 4096 ≤ 16777216 = omega (arith, most) in
+    let low : slots + 528384 ≤ 16777216 = omega (arith, most) in
     record {
       first = ap (λ (v : SpoolView DiskState). v.first) is;
-      file = sym (told spool.disk.story refl).stands.is;
+      file = sym (told spool.disk.story refl).ends.stands.is;
       fails_not = let left = used.fail_left in omega (arith, left);
       stops_not = let left = used.stop_left in omega (arith, left);
       going = used.going;
-      bounded = bounded-behind bytes spare spool.disk (slots + 2) (slots + 4096) low used fitted;
-      asked = asked-behind bytes spare spool.disk (slots + 2) (slots + 4096) low used fitted;
+      bounded = bounded-behind bytes spare spool.disk (slots + 34) (slots + 528384) low used fitted;
+      asked = asked-behind bytes spare spool.disk (slots + 34) (slots + 528384) low used fitted;
     }

@@ -1,7 +1,7 @@
 -- That the notes of a step are of one moment, and that behind them its end is noted: by the steps that the moves of a
 -- run come in.
 use Rattle.std.proofs.Common.{◌≡◌, inl, inr, refl, sym, ap, subst, ◌∙◌, ℕ, Bool, true, false, List, [], ◌∷◌, ◌++◌, Option, Some, None, if◌then◌else◌}
-use Rattle.end_pair.specs.InSteps.{AreOfWholeStep, AreSteps, ComeInSteps, IsCutBehind, IsFate, moves_with, power_at, started_at, with_wrote}
+use Rattle.end_pair.specs.InSteps.{AreOfWholeStep, AreSteps, ComeInSteps, IsCutBehind, IsFate, moves_with, power_at, started_at, starts_with, with_wrote}
 use Rattle.end_pair.specs.InSteps.AreSteps.{both_start, line_changes, one_step, starts_anew}
 use Rattle.end_pair.specs.InSteps.ComeInSteps.{at_a_step, in_a_step, without_power}
 use Rattle.end_pair.specs.Laws.{AreNoNotes, IsOfMoves}
@@ -10,11 +10,11 @@ use Rattle.gl_base.specs.declared.side.Side.{Side}
 use Rattle.gl_base.specs.declared.side.Side.TheVariants.{Equipment, Host}
 use Rattle.gl_base.specs.Side.{is_same_side}
 use Rattle.message_end.specs.Doings.{Doing}
-use Rattle.message_end.specs.Doings.Doing.{Says}
+use Rattle.message_end.specs.Doings.Doing.{Calls, Does, Gives, Says}
 use Rattle.message_end.specs.Log.{log_of, noted_of, with_note}
 use Rattle.message_end.specs.Moves.{Kind, LinePlans, Move}
 use Rattle.message_end.specs.Moves.Kind.{Added, Changed, Did, Lost, Started}
-use Rattle.message_end.specs.Starts.{IsStartOf}
+use Rattle.message_end.specs.Starts.{AreOfStart, IsStartOf}
 use Rattle.message_end.specs.Starts.IsStartOf.{of_equipment, of_host, of_journal}
 use Rattle.tool_law.specs.Laws.{DidOf}
 use Rattle.trace_log.specs.Log.{Entry, Happening}
@@ -143,6 +143,29 @@ may-ended Equipment Host moment written rest before may =
 may-ended Host Equipment moment written rest before may =
     subst MayBegin (sym (host-untold moment (with_wrote written (Says StepEnded ∷ rest)) before)) may
 
+-- what is said behind a start
+said-may :
+    (side end : Side) (moment : ℕ) (said : List Doing) (before : List Move) → AreOfStart said
+    → MayBegin (timed_at side before) → MayBegin (timed_at side (moves_with end moment said before))
+said-may side end moment [] before of may = may
+said-may side end moment (Says StepEnded ∷ rest) before of may = may-ended side end moment [] rest before may
+said-may side end moment (Says what ∷ rest) before of may = absurd of
+said-may side end moment (Does own ∷ rest) before of may = absurd of
+said-may side end moment (Gives place number block now ∷ rest) before of may = absurd of
+said-may side end moment (Calls call ∷ rest) before of may = absurd of
+
+start-between :
+    (side end : Side) (moment : ℕ) (note : Happening) (base : ℕ) (said : List Doing) (before : List Move)
+    → AreOfStart said → AreTimed moment (timed_at side before)
+    → MayBegin (timed_at side (started_at end moment note base ∷ before))
+    → AreBetween side (starts_with end moment note base said before)
+start-between side end moment note base said before of timed may = record {
+  so_far =
+      (doings-timed side end moment said (started_at end moment note base ∷ before)
+      (note-timed side end moment (Some note) (log_of before) timed)).so_far;
+  may = said-may side end moment said (started_at end moment note base ∷ before) of may;
+}
+
 step-between :
     (side end : Side) (moment : ℕ) (done : List Doing) (before : List Move) → AreOfWholeStep moment done
     → AreBetween side before → AreBetween side (moves_with end moment done before)
@@ -199,31 +222,46 @@ module _ {S T : Type 0} (equipment : ℕ → List Doing → S → Type 0) (host 
       subst (λ (ms : List Move). MayBegin (timed_at Equipment ms)) (sym is.is)
       (subst MayBegin (sym (equipment-untold moment is.done before)) are.may)
 
-  begins : (side : Side) (note note_there : Happening) (base base_there : ℕ) → IsStartOf Equipment note base
-      → IsStartOf Host note_there base_there
-      → AreBetween side (started_at Host 0 note_there base_there ∷ started_at Equipment 0 note base ∷ [])
-  begins Equipment note note_there base base_there start start_there =
-      record { so_far = (tt, tt); may = start-may Equipment note base [] start }
-  begins Host note note_there base base_there start start_there =
-      record { so_far = (tt, tt); may = start-may Host note_there base_there [] start_there }
+  begins :
+      (side : Side) (note note_there : Happening) (base base_there : ℕ) (said said_there : List Doing)
+      → IsStartOf Equipment note base → IsStartOf Host note_there base_there → AreOfStart said → AreOfStart said_there
+      → AreBetween side
+      (starts_with Host 0 note_there base_there said_there (starts_with Equipment 0 note base said []))
+  begins side note note_there base base_there said said_there start start_there of of_there =
+      start-between side Host 0 note_there base_there said_there earlier of_there
+      (between-timed side 0 earlier (one side)) (both side)
+    where
+      earlier : List Move
+      earlier = starts_with Equipment 0 note base said []
+
+      first : (side : Side) → MayBegin (timed_at side (started_at Equipment 0 note base ∷ []))
+      first Equipment = start-may Equipment note base [] start
+      first Host = tt
+
+      one : (side : Side) → AreBetween side earlier
+      one side = start-between side Equipment 0 note base said [] of (record { so_far = tt; next = tt }) (first side)
+
+      both : (side : Side) → MayBegin (timed_at side (started_at Host 0 note_there base_there ∷ earlier))
+      both Equipment = (one Equipment).may
+      both Host = start-may Host note_there base_there (timed_at Host earlier) start_there
 
   steps-between : (side : Side) (moves : List Move) → AreSteps equipment host plans moves → AreBetween side moves
-  steps-between side moves (both_start _ note note_there base base_there is start start_there at) =
-      subst (AreBetween side) (sym is) (begins side note note_there base base_there start start_there)
+  steps-between side moves (both_start _ note note_there base base_there said said_there is start start_there of
+      of_there at) =
+      subst (AreBetween side) (sym is)
+      (begins side note note_there base base_there said said_there start start_there of of_there)
   steps-between side moves (one_step _ before end moment done is step at steps) =
       subst (AreBetween side) (sym is)
       (step-between side end moment done before step (steps-between side before steps))
   steps-between side moves (line_changes _ before end moment kind is fate steps) =
       subst (AreBetween side) (sym is)
       (fate-between side end moment kind before fate (steps-between side before steps))
-  steps-between side moves (starts_anew _ cut before end moment note base is start is_cut at steps) =
+  steps-between side moves (starts_anew _ cut before end moment note base said is start of is_cut at steps) =
       let are = steps-between side before steps in
-      subst (AreBetween side) (sym is) (record {
-        so_far =
-            (note-timed side end moment (Some note) (log_of (power_at end moment ∷ cut))
-            (dark-timed side end moment before cut is_cut are)).so_far;
-        may = may-anew side end moment before cut note base start is_cut are;
-      })
+      subst (AreBetween side) (sym is)
+      (start-between side end moment note base said (power_at end moment ∷ cut) of
+      (dark-timed side end moment before cut is_cut are)
+      (may-anew side end moment before cut note base start is_cut are))
 
   all-timed : (side : Side) (moves : List Move) → ComeInSteps equipment host plans moves
       → NotesAreOfSteps (timed_at side moves)

@@ -68,7 +68,7 @@ module _ (plans : LinePlans) where
   doing-back Equipment Host moment doing rest replied = (replied, λ kept. (tt, kept))
   doing-back Host Equipment moment doing rest replied = (replied, λ kept. (tt, kept))
 
-  -- what is no end's doing, a start, and what the world notes, are no replies
+  -- what is no end's doing, a start and what is said behind it, and what the world notes, are no replies
   fate-may : (side end : Side) (kind : Kind) (rest : List Move) → IsFate kind → MayAt side end rest kind
   fate-may side end (Did doing) rest fate = absurd fate
   fate-may side end (Started note base) rest fate = absurd fate
@@ -88,11 +88,11 @@ module _ (plans : LinePlans) where
   start-may Equipment Host note base rest = tt
   start-may Host Equipment note base rest = tt
 
-  power-may : (side end : Side) (rest : List Move) → MayAt side end rest (Did (Says Power))
-  power-may Equipment Equipment rest = tt
-  power-may Host Host rest = tt
-  power-may Equipment Host rest = tt
-  power-may Host Equipment rest = tt
+  said-may : (side end : Side) (what : Happening) (rest : List Move) → MayAt side end rest (Did (Says what))
+  said-may Equipment Equipment what rest = tt
+  said-may Host Host what rest = tt
+  said-may Equipment Host what rest = tt
+  said-may Host Equipment what rest = tt
 
   module _ {S T : Type 0} (equipment : ℕ → List Doing → S → Type 0) (host : ℕ → List Doing → T → Type 0)
       (side : Side)
@@ -104,7 +104,8 @@ module _ (plans : LinePlans) where
       back = λ end moment doing before replied. doing-back side end moment doing before replied;
       fate = λ end moment kind before fate kept. (fate-may side end kind before fate, kept);
       start = λ end moment note base before kept. (start-may side end note base before, kept);
-      power = λ end moment before kept. (power-may side end before, kept);
+      said = λ end moment what before of kept. (said-may side end what before, kept);
+      power = λ end moment before kept. (said-may side end Power before, kept);
     }
 
     replies-keep : (moves : List Move) → ComeInSteps equipment host plans moves → KeepsReplies side moves

@@ -12,11 +12,12 @@ use Rattle.gl_base.specs.declared.side.Side.TheVariants.{Equipment, Host}
 use Rattle.message_end.specs.Doings.{Doing, own_of}
 use Rattle.message_end.specs.Doings.Doing.{Says}
 use Rattle.message_end.specs.Ends.IsOfWorld.{of_power}
+use Rattle.message_end.proofs.Starts.{IsSaidAtStart}
 use Rattle.message_end.specs.Moves.{Kind, LinePlans, Move, plan_at, run_at}
 use Rattle.message_end.specs.Moves.Kind.{Added, Changed, Did, Lost, Started}
 use Rattle.spool_law.specs.Shelf.{change_of}
 use Rattle.spool_law.specs.Tries.{KeepsTries, MayTryAt, tries_in}
-use Rattle.trace_log.specs.Log.{Happening}
+use Rattle.trace_log.specs.Log.{Happening, Past}
 use Rattle.trace_log.specs.Log.Happening.{Power}
 use Rattle.line_world.specs.Safe.{plans_of}
 
@@ -33,7 +34,7 @@ module _ (plans : LinePlans) where
   doing-back Equipment moment doing rest tried = (tried.1, λ kept. (tried.0, kept))
   doing-back Host moment doing rest tried = (tried, λ kept. (tt, kept))
 
-  -- what is no end's doing, a start, and what the world notes, are no tries
+  -- what is no end's doing, a start and what is said behind it, and what the world notes, are no tries
   fate-may : (side : Side) (kind : Kind) (rest : List Move) → IsFate kind → MayTryAt side plans rest kind
   fate-may Equipment (Did doing) rest fate = absurd fate
   fate-may Equipment (Started note base) rest fate = absurd fate
@@ -46,6 +47,16 @@ module _ (plans : LinePlans) where
       → MayTryAt side plans rest (Started note base)
   start-may Equipment note base rest = tt
   start-may Host note base rest = tt
+
+  said-may : (side : Side) (what : Happening) (rest : List Move) → IsSaidAtStart what
+      → MayTryAt side plans rest (Did (Says what))
+  said-may Equipment Happening.StepEnded rest of = tt
+  said-may Equipment (Happening.Setup found) rest of = tt
+  said-may Equipment (Happening.Recorded (Past.Asked request)) rest of = tt
+  said-may Equipment (Happening.Recorded (Past.Commanded command)) rest of = absurd of
+  said-may Equipment Happening.Refused rest of = tt
+  said-may Equipment what rest of = absurd of
+  said-may Host what rest of = tt
 
   power-may : (side : Side) (rest : List Move) → MayTryAt side plans rest (Did (Says Power))
   power-may Equipment rest =
@@ -66,6 +77,7 @@ module _ (plans : LinePlans) where
     back = doing-back;
     fate = λ side moment kind before fate kept. (fate-may side kind before fate, kept);
     start = λ side moment note base before kept. (start-may side note base before, kept);
+    said = λ side moment what before of kept. (said-may side what before of, kept);
     power = λ side moment before kept. (power-may side before, kept);
   }
 

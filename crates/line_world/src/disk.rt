@@ -6,7 +6,7 @@ ghost use Rattle.line_world.specs.Disk.{IsEmptySpool};
 use disk_base::MemDisk;
 use equipment_node::{LISTED_BYTES, LISTED_CALLS, LISTED_SPARE};
 use gl_base::NoMemory;
-use spool_file::slot_place;
+use spool_file::area_end;
 use spool_slots::{Raw, Spool};
 use std::alloc::Global;
 
@@ -20,7 +20,7 @@ pub(crate) fn empty_spool(alloc: Global, slots: u32) -> Result<Spool<MemDisk>, N
 {
     let Ok(disk) = MemDisk::with_spare(
         alloc,
-        slot_place(slots),
+        area_end(slots),
         LISTED_CALLS,
         LISTED_BYTES,
         LISTED_SPARE,

@@ -35,7 +35,7 @@ use tool_spool::{messages_leave_in_step, overwrites_for_puts, spool_is_kept};
 /// The disk of the tool's spool is in memory, and new. A run has no turn left exactly where all 4,000,000 steps are
 /// made and one is left, or where a step comes to a call of that disk that would be its 65,537th since it was made or
 /// power was lost, or would pass 64 MiB that are written since, and at which no cut takes the power. The calls count
-/// that make the file, two and one a slot, or take it up again, two and two a slot and one more of each of the last
+/// that make the file, 34 and one a slot, or take it up again, two and two a slot and one more of each of the last
 /// 257; the one that asks the size of each message found; and the five by which a start reserves system bytes. What is
 /// written are the lines up to that call.
 ///

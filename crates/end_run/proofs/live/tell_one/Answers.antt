@@ -1,6 +1,6 @@
 -- A command is a step with its reply; a text is written; and the end stops.
 
-use Rattle.std.proofs.Common.{[], None, Some, refl}
+use Rattle.std.proofs.Common.{[], None, refl}
 use Rattle.end_run.proofs.Joining.{did_none}
 use Rattle.end_run.proofs.Stepping.{short_fails, wrote_did}
 use Rattle.end_run.proofs.live.tell_one.Goals as goal

@@ -1,6 +1,6 @@
 -- A start by where it ends: at its lines, at the connection, or behind its first step.
 
-use Rattle.std.proofs.Common.{◌≡◌, ◌∙◌, None, Some, inl, inr, refl, sym, subst}
+use Rattle.std.proofs.Common.{◌≡◌, ◌∙◌, None, Some, inl, inr, refl, sym}
 use Rattle.message_end.specs.Ends.Input.{Time}
 use Rattle.gl_base.specs.Told.{sink_told}
 use Rattle.end_run.specs.declared.ending.Ending.TheVariants as ending

@@ -28,7 +28,7 @@ returns-in-Err-NumbersSpent-clause-runs g c =
     let now = c.args.now in
     let spent =
     subst
-    (λ (why : Stop). Leaves (e.machine.stops s input now) (e.machine.fills s input now)
+    (λ (why : Stop). Leaves (e.machine.stops s input now) (e.machine.lacks_room s input now)
     (e.machine.act s input now)
     (e.means c.step.new.self) c.step.new.out (Err why))
     c.in-Err-NumbersSpent.field-0-is (c.in-Err-NumbersSpent.ensures.step known)
@@ -41,7 +41,8 @@ returns-in-Err-NumbersSpent-clause-runs g c =
       Some (record { at = step_at c.args.side now input s; out = c.step.new.out; why = stop.NumbersSpent }),
       left,
       spent_runs c.notes_are_lines.ensures (step_at c.args.side now input s) (e.machine.stops s input now)
-          (e.machine.asks s input now) (e.machine.fills s input now) c.args.reply.now (e.machine.act s input now) c.step.new.out
+          (e.machine.asks s input now) (e.machine.lacks_room s input now) c.args.reply.now (e.machine.act s input now)
+          c.step.new.out
           (scene g.L.Link g.W.Sink c.args.link.now c.args.out.now s (e.room c.args.end.now) None) refl
           (e.means c.step.new.self) (e.room c.step.new.self) _ _ false spent.1 spent.0
           c.end_with.result
@@ -60,7 +61,7 @@ returns-in-Err-Full-clause-runs g c =
     let now = c.args.now in
     let spent =
     subst
-    (λ (why : Stop). Leaves (e.machine.stops s input now) (e.machine.fills s input now)
+    (λ (why : Stop). Leaves (e.machine.stops s input now) (e.machine.lacks_room s input now)
     (e.machine.act s input now)
     (e.means c.step.new.self) c.step.new.out (Err why))
     c.in-Err-Full.field-0-is (c.in-Err-Full.ensures.step known)
@@ -73,7 +74,8 @@ returns-in-Err-Full-clause-runs g c =
       Some (record { at = step_at c.args.side now input s; out = c.step.new.out; why = stop.Full }),
       left,
       spent_runs c.notes_are_lines.ensures (step_at c.args.side now input s) (e.machine.stops s input now)
-          (e.machine.asks s input now) (e.machine.fills s input now) c.args.reply.now (e.machine.act s input now) c.step.new.out
+          (e.machine.asks s input now) (e.machine.lacks_room s input now) c.args.reply.now (e.machine.act s input now)
+          c.step.new.out
           (scene g.L.Link g.W.Sink c.args.link.now c.args.out.now s (e.room c.args.end.now) None) refl
           (e.means c.step.new.self) (e.room c.step.new.self) _ _ true spent.1 spent.0
           c.end_with-in-Err-Full.result
@@ -92,7 +94,7 @@ returns-in-Err-DiskFailed-clause-runs g c =
     let now = c.args.now in
     let halt =
     subst
-    (λ (why : Stop). Leaves (e.machine.stops s input now) (e.machine.fills s input now)
+    (λ (why : Stop). Leaves (e.machine.stops s input now) (e.machine.lacks_room s input now)
     (e.machine.act s input now)
     (e.means c.step.new.self) c.step.new.out (Err why))
     c.in-Err-DiskFailed.field-0-is (c.in-Err-DiskFailed.ensures.step known)
@@ -117,7 +119,8 @@ returns-in-Err-DiskFailed-clause-runs g c =
       Some (record { at = step_at c.args.side now input s; out = c.step.new.out; why = stop.DiskFailed }),
       left,
       stopped_runs c.notes_are_lines.ensures (step_at c.args.side now input s) (e.machine.stops s input now)
-          (e.machine.asks s input now) (e.machine.fills s input now) c.args.reply.now (e.machine.act s input now) c.step.new.out a refl (e.means c.step.new.self)
+          (e.machine.asks s input now) (e.machine.lacks_room s input now) c.args.reply.now (e.machine.act s input now)
+          c.step.new.out a refl (e.means c.step.new.self)
           (e.room c.step.new.self) _ _ halt short
           (subst
           (λ (ns : List Note). PutsAsCan (sink_told g.W.Sink c.args.out.now c.put_stopped.new.out)
@@ -140,7 +143,8 @@ returns-in-Err-NoMemory-clause-runs g c =
       Some (record { at = step_at c.args.side now input s; out = c.step.new.out; why = stop.NoMemory }),
       left,
       lacks_memory c.notes_are_lines.ensures (step_at c.args.side now input s) (e.machine.stops s input now)
-          (e.machine.asks s input now) (e.machine.fills s input now) c.args.reply.now (e.machine.act s input now) c.step.new.out
+          (e.machine.asks s input now) (e.machine.lacks_room s input now) c.args.reply.now (e.machine.act s input now)
+          c.step.new.out
           (scene g.L.Link g.W.Sink c.args.link.now c.args.out.now s (e.room c.args.end.now) None) refl
           (e.means c.step.new.self) (e.room c.step.new.self),
     )
@@ -153,7 +157,8 @@ returns-clause-runs g c =
     let input = input_of c.args.input in
     let now = c.args.now in
     gone_comes c.notes_are_lines.ensures (step_at c.args.side now input s) (e.machine.stops s input now)
-    (e.machine.asks s input now) (e.machine.fills s input now) c.args.reply.now (e.machine.act s input now) c.step.new.out e.known e.left c.step.new.self
+    (e.machine.asks s input now) (e.machine.lacks_room s input now) c.args.reply.now (e.machine.act s input now)
+    c.step.new.out e.known e.left c.step.new.self
     (scene g.L.Link g.W.Sink c.args.link.now c.args.out.now s (e.room c.args.end.now) None)
     (scene g.L.Link g.W.Sink c.hand_on.new.link c.hand_on.new.out (e.means c.step.new.self) (e.room c.step.new.self))
     (e.means c.step.new.self) (e.room c.step.new.self) refl (c.in-Ok.ensures.step known) (c.in-Ok.ensures.room known)

@@ -10,7 +10,7 @@ use Rattle.line_world.proofs.disk.empty_spool.Goals as goal
 pub returns : goal.returns
 returns c =
     let spool = c.in-Ok-format.spool in
-    emptied (replicate c.slot_place.result 0) _ c.args.slots c.requires.most spool
+    emptied (replicate c.area_end.result 0) _ c.args.slots c.requires.most spool
     (subst (λ (disk : DiskState). Formats ghosts disk c.args.slots (Ok spool)) (c.new.ensures ∙ c.in-Ok.ensures)
     c.in-Ok-format.ensures)
     c.stops_in.ensures.fitted

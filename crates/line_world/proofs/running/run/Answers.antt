@@ -35,7 +35,7 @@ returns-in_default g c =
       few = c.few_traces_run.ensures;
     }
     in
-    let blank = blank-empty plans.slots (omega (arith, fit.slots_at_most)) in
+    let blank = blank-empty plans.slots fit.slots_at_least (omega (arith, fit.slots_at_most)) in
     let moved =
     subst (λ (first : Step EquipmentView Happening).
     IsOfMoves (DidOf plans.equipment) (HostDid plans.host) (plans_of plans)

@@ -2,9 +2,8 @@
 
 use Rattle.std.proofs.Common.{◌≡◌, subst, sym}
 use Rattle.gl_base.specs.declared.side.Side.{Side}
-use Rattle.gl_base.specs.declared.side.Side.TheVariants.{Equipment, Host}
 use Rattle.line_way.specs.Kept.{without_power}
-use Rattle.end_pair.specs.Kept.{IsDark, Makes, kept, seen}
+use Rattle.end_pair.specs.Kept.{IsDark, Makes, kept}
 use Rattle.end_pair.specs.World.{World, again}
 use Rattle.end_pair.proofs.Anew.{equipment_again, host_again}
 use Rattle.end_pair.proofs.world.World.start_anew.Goals as goal

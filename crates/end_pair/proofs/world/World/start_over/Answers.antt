@@ -2,7 +2,6 @@
 
 use Rattle.std.proofs.Common.{◌≡◌, ◌+◌, ℕ, ap, arith, subst, sym}
 use Rattle.gl_base.specs.declared.side.Side.{Side}
-use Rattle.gl_base.specs.declared.side.Side.TheVariants.{Equipment, Host}
 use Rattle.message_end.specs.Ends.Input.{Time}
 use Rattle.end_pair.specs.Kept.{IsDark, Makes, kept, seen}
 use Rattle.end_pair.specs.World.{World, again, equipment_stepped, later, timed}

@@ -1,7 +1,6 @@
 -- What an event comes to: its lines and its world, and that no event ends without power.
 
 use Rattle.std.proofs.Common.{◌≡◌, sym, subst}
-use Rattle.gl_base.specs.declared.side.Side.{Side}
 use Rattle.trace_log.specs.Text.{text_of}
 use Rattle.end_pair.specs.Kept.{IsDark, Makes, kept, seen}
 use Rattle.end_pair.specs.World.{Piece, after_event}
