@@ -1,6 +1,7 @@
 //! `spool_slots`: the floor of a spool file, below which no message stands. It rises to the next number at once, and
 //! the slots below it stay open until a put comes to them.
 
+use crate::long_messages::formatted;
 use crate::slot_file::{filled, put, refuses, with_bytes};
 use disk_base::{CutChoice, Disk, DiskAnswer, MemDisk, settle};
 use spool_file::NotSpool;
@@ -340,15 +341,8 @@ fn behind(mut spool: Spool<MemDisk>, row: &Counted) -> Option<Spool<MemDisk>> {
     }
 }
 
-fn one_slot(alloc: Global) -> Option<Spool<MemDisk>> {
-    match MemDisk::new(alloc, 8192, 100, 8192) {
-        Ok(disk) => Raw::new(disk).format(1).ok(),
-        Err(_) => None,
-    }
-}
-
 fn all_counted(alloc: Global) -> bool {
-    let Some(mut spool) = one_slot(alloc) else {
+    let Some(mut spool) = formatted(alloc, 1) else {
         return false;
     };
     for row in &COUNTED {

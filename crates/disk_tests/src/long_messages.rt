@@ -4,7 +4,7 @@
 ghost use Rattle.std.specs.Prelude.{◌≤◌, length};
 
 use disk_base::{CutChoice, Disk, DiskAnswer, MemDisk, settle};
-use spool_file::{NotSpool, SLOT_SIZE};
+use spool_file::{NotSpool, SLOT_SIZE, area_end};
 use spool_slots::{OldestAnswer, Raw, Recovering, Spool, Staging, Stored};
 use std::alloc::Global;
 use std::test::Fail;
@@ -19,10 +19,8 @@ static WHOLE: [u8; 4081] = [9; 4081];
 static MORE: [u8; 4082] = [9; 4082];
 
 // A new spool of so many slots.
-pub(crate) fn formatted(alloc: Global, slots: u32) -> Option<Spool<MemDisk>>
-    requires { slots ≤ 64 }
-{
-    let Ok(disk) = MemDisk::new(alloc, 4096 * (slots as u64 + 1), 1000, 1048576) else {
+pub(crate) fn formatted(alloc: Global, slots: u32) -> Option<Spool<MemDisk>> {
+    let Ok(disk) = MemDisk::new(alloc, area_end(slots), 1000, 1048576) else {
         return None;
     };
     match Raw::new(disk).format(slots) {

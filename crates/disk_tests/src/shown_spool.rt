@@ -85,7 +85,7 @@ fn formats(
     line: &[u8],
 ) -> bool {
     match (
-        MemDisk::new(alloc, size, 100, 8192),
+        MemDisk::new(alloc, size, 100, 600_000),
         MemSink::new(alloc, room),
     ) {
         (Ok(mut disk), Ok(mut out)) => {
@@ -96,14 +96,14 @@ fn formats(
     }
 }
 
-const LINE: &[u8] = b"formatted slots=3 bytes=16384\n";
+const LINE: &[u8] = b"formatted slots=3 bytes=540672\n";
 
 const EMPTY: &[u8] = b"spool slots=3 mark=0 len=0\n";
 
-// Whether a file that was made is shown as an empty one, also on a disk that has more bytes.
-fn shows_what_it_made(alloc: Global) -> bool {
+// Whether a file that was made on a disk of this size is shown as an empty one.
+fn shows_what_it_made(alloc: Global, size: u64) -> bool {
     match (
-        MemDisk::new(alloc, 20000, 100, 8192),
+        MemDisk::new(alloc, size, 100, 600_000),
         MemSink::new(alloc, 100),
     ) {
         (Ok(mut disk), Ok(mut out)) => format_spool(&mut disk, "SPOOL", 3, &mut out)
@@ -117,11 +117,11 @@ fn shows_what_it_made(alloc: Global) -> bool {
 #[test]
 fn each_end_of_a_format(rt: HostRuntime) {
     let alloc = rt.alloc();
-    assert!(rt; formats(alloc, 16384, 0, 100, SpoolEnd::Done, LINE));
-    assert!(rt; formats(alloc, 16383, 0, 100, SpoolEnd::DiskFailed, b""));
-    assert!(rt; formats(alloc, 16384, 6, 100, SpoolEnd::DiskFailed, b""));
-    assert!(rt; formats(alloc, 16384, 0, 9, SpoolEnd::WriteFailed, b""));
-    assert!(rt; shows_what_it_made(alloc));
+    assert!(rt; formats(alloc, 540_672, 0, 100, SpoolEnd::Done, LINE));
+    assert!(rt; formats(alloc, 540_671, 0, 100, SpoolEnd::DiskFailed, b""));
+    assert!(rt; formats(alloc, 540_672, 38, 100, SpoolEnd::DiskFailed, b""));
+    assert!(rt; formats(alloc, 540_672, 0, 9, SpoolEnd::WriteFailed, b""));
+    assert!(rt; shows_what_it_made(alloc, 600_000));
 }
 
 #[test]

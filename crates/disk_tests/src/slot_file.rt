@@ -2,22 +2,12 @@
 
 ghost use Rattle.std.specs.Prelude.{◌≤◌, length};
 
+use crate::long_messages::formatted;
 use disk_base::{CutChoice, Disk, MemDisk, settle};
 use spool_file::NotSpool;
 use spool_slots::{Dropping, Raw, Recovering, Reserving, Spool, Staging, Stored};
 use std::alloc::Global;
 use std::test::Fail;
-
-// A new spool of three slots.
-fn formatted(alloc: Global) -> Option<Spool<MemDisk>> {
-    let Ok(disk) = MemDisk::new(alloc, 16384, 100, 16384) else {
-        return None;
-    };
-    match Raw::new(disk).format(3) {
-        Ok(spool) => Some(spool),
-        Err(_) => None,
-    }
-}
 
 // Puts an S6F11, and hands the disk back where that wasn't done.
 pub(crate) fn put(spool: Spool<MemDisk>) -> Result<Spool<MemDisk>, MemDisk> {
@@ -61,7 +51,7 @@ fn leaves(
 
 // Whether a second put that stops at a call leaves so many messages.
 fn put_leaves(alloc: Global, call: u32, choice: CutChoice, len: u32) -> bool {
-    let Some(spool) = formatted(alloc) else {
+    let Some(spool) = formatted(alloc, 3) else {
         return false;
     };
     let Ok(mut spool) = put(spool) else {
@@ -90,7 +80,7 @@ fn a_put_is_done_with_its_gate(rt: HostRuntime) -> Result<(), Fail> {
 
 // Whether a drop of the only message that stops at a call leaves so many messages.
 fn drop_leaves(alloc: Global, call: u32, choice: CutChoice, len: u32) -> bool {
-    let Some(spool) = formatted(alloc) else {
+    let Some(spool) = formatted(alloc, 3) else {
         return false;
     };
     let Ok(mut spool) = put(spool) else {
@@ -117,7 +107,7 @@ fn a_drop_is_done_with_its_gate(rt: HostRuntime) -> Result<(), Fail> {
 
 // Whether a reserve that stops at a call leaves this mark.
 fn reserve_leaves(alloc: Global, call: u32, choice: CutChoice, mark: u64) -> bool {
-    let Some(mut spool) = formatted(alloc) else {
+    let Some(mut spool) = formatted(alloc, 3) else {
         return false;
     };
     spool.arm(call);
@@ -157,7 +147,7 @@ pub(crate) fn refuses(spool: Spool<MemDisk>, body: &[u8]) -> (bool, bool, bool) 
 
 // A spool of three slots after so many puts.
 pub(crate) fn filled(alloc: Global, puts: u32) -> Option<Spool<MemDisk>> {
-    let Some(mut spool) = formatted(alloc) else {
+    let Some(mut spool) = formatted(alloc, 3) else {
         return None;
     };
     for _ in 0..puts {
@@ -193,7 +183,7 @@ fn goes_round(alloc: Global) -> bool {
 
 // Whether an empty spool says so.
 fn is_empty(alloc: Global) -> bool {
-    match formatted(alloc) {
+    match formatted(alloc, 3) {
         Some(spool) => matches!(spool.drop_oldest(), Err(Dropping::Empty(_))),
         None => false,
     }
@@ -214,7 +204,7 @@ fn what_has_no_room_is_refused(rt: HostRuntime) -> Result<(), Fail> {
 pub(crate) fn with_bytes(alloc: Global, at: u64, bytes: &[u8]) -> Option<Spool<MemDisk>>
     requires { length bytes.now ≤ 100 }
 {
-    let Some(spool) = formatted(alloc) else {
+    let Some(spool) = formatted(alloc, 3) else {
         return None;
     };
     let mut disk = spool.retire().into_disk();

@@ -1,5 +1,6 @@
 //! `gem_spool`: each call of the spool as a change of its list, and that a purge leaves all or nothing where it stops.
 
+use crate::long_messages;
 use disk_base::{CutChoice, Disk, MemDisk, settle};
 use gem_spool::{GemSpool, PutAnswer, Room};
 use spool_slots::{OldestAnswer, Raw, Spool, Stored};
@@ -77,13 +78,7 @@ static WHOLE: [Row; 5] = [
 
 // A new spool of three slots.
 pub(crate) fn formatted(alloc: Global) -> Option<GemSpool<MemDisk>> {
-    let Ok(disk) = MemDisk::new(alloc, 16384, 100, 65536) else {
-        return None;
-    };
-    match Raw::new(disk).format(3) {
-        Ok(spool) => Some(GemSpool::new(spool)),
-        Err(_) => None,
-    }
+    Some(GemSpool::new(long_messages::formatted(alloc, 3)?))
 }
 
 // Puts an S6F11.
@@ -161,13 +156,7 @@ pub(crate) fn with_two(alloc: Global) -> Option<GemSpool<MemDisk>> {
 
 // A spool of one slot, which holds number 0.
 pub(crate) fn with_one(alloc: Global) -> Option<GemSpool<MemDisk>> {
-    let Ok(disk) = MemDisk::new(alloc, 8192, 100, 65536) else {
-        return None;
-    };
-    match Raw::new(disk).format(1) {
-        Ok(spool) => behind(GemSpool::new(spool), &FIRST),
-        Err(_) => None,
-    }
+    behind(GemSpool::new(long_messages::formatted(alloc, 1)?), &FIRST)
 }
 
 fn goes_on(alloc: Global) -> bool {

@@ -11,7 +11,7 @@ use gem_vars::{VariablePlan, VarsPlan};
 use gl_base::Row;
 use line_end::{LinePlan, Times};
 use secs_items::{Item, Kind};
-use spool_file::slot_place;
+use spool_file::area_end;
 use spool_slots::Raw;
 use std::alloc::Global;
 
@@ -95,7 +95,7 @@ pub(crate) fn plan(alloc: Global) -> Option<EquipmentPlan> {
 
 /// A spool of so many slots.
 pub(crate) fn formatted(alloc: Global, slots: u32) -> Option<GemSpool<MemDisk>> {
-    let Ok(disk) = MemDisk::new(alloc, slot_place(slots), 4_096, 1 << 20) else {
+    let Ok(disk) = MemDisk::new(alloc, area_end(slots), 4_096, 1 << 20) else {
         return None;
     };
     match Raw::new(disk).format(slots) {

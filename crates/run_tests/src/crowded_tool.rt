@@ -110,7 +110,7 @@ fn lines(alloc: Global) -> Result<Row<u8>, NoMemory> {
 /// The output of the tool that this peer calls.
 fn told(alloc: Global, peer: &mut Peer<'_>) -> Option<TestOutput> {
     let words = words_of(alloc, EQUIPMENT).ok()?;
-    let mut disk = disk_with(alloc, &[FRONT, b""])?;
+    let mut disk = disk_with(alloc, &[FRONT, b""], 0)?;
     let mut files = TestFiles {
         plan: b"",
         schedule: b"",

@@ -2,7 +2,7 @@
 //! output has a front of the whole one.
 
 use crate::played_program::{
-    FOURTH, FRONT, TestFiles, TestInput, TestOutput, disk_with, output, words_of,
+    AREA, FOURTH, FRONT, TestFiles, TestInput, TestOutput, disk_with, output, words_of,
 };
 use crate::replay_and_make::FIRST_MESSAGE;
 use crate::show_and_spell::{S1F1, S1F1_LINES};
@@ -22,13 +22,14 @@ enum Outside {
     Link,
 }
 
-/// Words, a plan, what the input gives, the first bytes of a file of three slots and of its slot 1, the whole output,
-/// and how many calls are made of each.
+/// Words, a plan, what the input gives, the first bytes of a file of three slots and of its slot 1, and how many there
+/// are behind the slots, the whole output, and how many calls are made of each.
 type Run = (
     &'static [&'static str],
     &'static [u8],
     &'static [u8],
     [&'static [u8]; 2],
+    u64,
     &'static str,
     [u32; 5],
 );
@@ -50,6 +51,7 @@ static RUNS: [Run; 9] = [
         b"",
         &S1F1,
         [b"", b""],
+        0,
         S1F1_LINES,
         [2, 0, 1, 0, 0],
     ),
@@ -58,6 +60,7 @@ static RUNS: [Run; 9] = [
         b"",
         b"<U4 5>",
         [b"", b""],
+        0,
         "B10400000005\n",
         [2, 0, 1, 0, 0],
     ),
@@ -66,6 +69,7 @@ static RUNS: [Run; 9] = [
         b"",
         b"B10400000005",
         [b"", b""],
+        0,
         "<U4 5>\n",
         [2, 0, 1, 0, 0],
     ),
@@ -74,6 +78,7 @@ static RUNS: [Run; 9] = [
         b"",
         b"",
         [b"", b""],
+        0,
         FIRST_MESSAGE,
         [0, 2, 1, 0, 0],
     ),
@@ -82,6 +87,7 @@ static RUNS: [Run; 9] = [
         b"",
         b"",
         [b"", b""],
+        0,
         "rounds 1\nrx E 8 H 8\nreports 0\nstored 0\ngone 0\nstarts 2\n",
         [0, 0, 1, 0, 0],
     ),
@@ -90,14 +96,16 @@ static RUNS: [Run; 9] = [
         b"",
         b"",
         [b"", b""],
-        "formatted slots=3 bytes=16384\n",
-        [0, 0, 1, 6, 0],
+        AREA,
+        "formatted slots=3 bytes=540672\n",
+        [0, 0, 1, 38, 0],
     ),
     (
         &["spool", "SPOOL"],
         b"",
         b"",
         [FRONT, FOURTH],
+        0,
         "spool slots=3 mark=0 len=1\n4 S6F11 W 0100\n",
         [0, 0, 1, 7, 0],
     ),
@@ -106,6 +114,7 @@ static RUNS: [Run; 9] = [
         ONE_TRY,
         STORES,
         [FRONT, b""],
+        0,
         STORED,
         [2, 1, 5, 20, 5],
     ),
@@ -114,6 +123,7 @@ static RUNS: [Run; 9] = [
         b"",
         b"10001 send S1F1 W -\n",
         [b"", b""],
+        0,
         ASKED,
         [2, 1, 3, 0, 5],
     ),
@@ -132,9 +142,9 @@ fn silent_link(alloc: Global, fails: u32) -> Result<MemLink, NoMemory> {
 
 /// The status of a run of which this call fails, its output and its errors.
 fn ended(alloc: Global, run: &Run, call: (Outside, u32)) -> Option<(u8, TestOutput, TestOutput)> {
-    let (words, plan, given, file, _, _) = *run;
+    let (words, plan, given, file, area, _, _) = *run;
     let words = words_of(alloc, words).ok()?;
-    let mut disk = disk_with(alloc, &file)?;
+    let mut disk = disk_with(alloc, &file, area)?;
     disk.fail_at(fails_of(call, Outside::Disk));
     let mut link = silent_link(alloc, fails_of(call, Outside::Link)).ok()?;
     let mut files = TestFiles {
@@ -169,7 +179,7 @@ fn told_of(of: Outside) -> (u8, &'static str) {
 /// How many of these calls fail so, one in a run, until a run is whole. None where one ends otherwise.
 fn failing(alloc: Global, run: &Run, of: Outside) -> Option<u32> {
     let (wanted, line) = told_of(of);
-    let whole = run.4.as_bytes();
+    let whole = run.5.as_bytes();
     for failed in 0..100_u32 {
         let (status, out, err) = ended(alloc, run, (of, failed.saturating_add(1)))?;
         let out = out.bytes.as_slice();
@@ -188,7 +198,7 @@ fn failing(alloc: Global, run: &Run, of: Outside) -> Option<u32> {
 fn each_call_fails_alone(rt: HostRuntime) -> Result<(), Fail> {
     let alloc = rt.alloc();
     for run in &RUNS {
-        for (of, calls) in ALL.iter().zip(&run.5) {
+        for (of, calls) in ALL.iter().zip(&run.6) {
             let failed = failing(alloc, run, *of);
             assert!(rt; failed == Some(*calls), "{:?} {of:?} {failed:?}", run.0);
         }

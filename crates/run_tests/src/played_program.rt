@@ -346,13 +346,17 @@ pub(crate) const FRONT: &[u8] = b"GLSPOOL1\0\0\0\x03";
 /// An S6F11 of number 4, with an empty list.
 pub(crate) const FOURTH: &[u8] = b"\x5A\0\0\0\0\0\0\0\x04\x86\x0B\0\0\0\x02\x01\0";
 
-/// A disk with these bytes.
-pub(crate) fn disk_with(alloc: Global, bytes: &[&[u8]; 2]) -> Option<MemDisk> {
+/// How many bytes the area of a spool file has.
+pub(crate) const AREA: u64 = 524_288;
+
+/// A disk of three slots with these first bytes, and these of slot 1, and so many bytes behind the slots.
+pub(crate) fn disk_with(alloc: Global, bytes: &[&[u8]; 2], area: u64) -> Option<MemDisk> {
     let [front, slot] = *bytes;
-    let Ok(mut disk) = MemDisk::new(alloc, 16384, 100, 16384) else {
+    let size = 16_384_u64.saturating_add(area);
+    let Ok(mut disk) = MemDisk::new(alloc, size, 100, size) else {
         return None;
     };
-    if front.len() > 4096 || slot.len() > 4096 {
+    if disk.size() < 16384 || front.len() > 4096 || slot.len() > 4096 {
         return None;
     }
     let _ = settle(&mut disk, 0, front);

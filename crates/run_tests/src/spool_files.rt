@@ -1,11 +1,11 @@
 //! `format` and `spool` over a disk in memory.
 
-use crate::played_program::{End, FOURTH, FRONT, disk_ends_so, disk_with, words_of};
+use crate::played_program::{AREA, End, FOURTH, FRONT, disk_ends_so, disk_with, words_of};
 use std::alloc::Global;
 use std::test::Fail;
 
-/// Words, the first bytes of a file of 16,384 and of its slot 1, which call of the disk and of the output fails, and
-/// the end.
+/// Words, the first bytes of a file of three slots and of its slot 1, which call of the disk and of the output fails,
+/// and the end.
 type Spooling = (
     &'static [&'static str],
     [&'static [u8]; 2],
@@ -21,7 +21,7 @@ static SPOOLS: [Spooling; 8] = [
         [b"", b""],
         0,
         0,
-        (0, "formatted slots=3 bytes=16384\n", ""),
+        (0, "formatted slots=3 bytes=540672\n", ""),
     ),
     (
         &["format", "SPOOL", "3"],
@@ -77,7 +77,8 @@ static SPOOLS: [Spooling; 8] = [
 /// Whether words over a disk end so.
 fn is_spooling(alloc: Global, case: &Spooling) -> bool {
     let (words, bytes, call, write, end) = *case;
-    let (Ok(words), Some(mut disk)) = (words_of(alloc, words), disk_with(alloc, &bytes)) else {
+    let (Ok(words), Some(mut disk)) = (words_of(alloc, words), disk_with(alloc, &bytes, AREA))
+    else {
         return false;
     };
     disk.fail_at(call);

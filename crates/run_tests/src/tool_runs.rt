@@ -10,7 +10,7 @@ use gl_base::{LinkIn, MemLink, NoMemory, Row};
 use std::alloc::Global;
 use std::test::Fail;
 
-/// Words of `equipment` behind the plan, the first bytes of a file of 16,384 and of its slot 1, a script, which call of
+/// Words of `equipment` behind the plan, the first bytes of a file of three slots and of slot 1, a script, which call of
 /// the disk, of the output and of the link fails, and the end.
 type ToolCase = (
     &'static [&'static str],
@@ -165,7 +165,7 @@ fn runs_tool(alloc: Global, answers: Row<LinkIn>, case: &ToolCase) -> bool
 }
 
 fn runs_tool_over(alloc: Global, link: &mut MemLink, case: &ToolCase) -> bool {
-    match (words_of(alloc, case.0), disk_with(alloc, &case.1)) {
+    match (words_of(alloc, case.0), disk_with(alloc, &case.1, 0)) {
         (Ok(words), Some(mut disk)) => {
             let (_, _, script, [call, write, _], end) = *case;
             disk.fail_at(call);
@@ -288,7 +288,7 @@ static STORINGS: [Storing; 3] = [
 ];
 
 fn stores_so(alloc: Global, case: &Storing) -> bool {
-    match (silent_link(alloc), disk_with(alloc, &[FRONT, b""])) {
+    match (silent_link(alloc), disk_with(alloc, &[FRONT, b""], 0)) {
         (Ok(mut link), Some(mut disk)) => stores_over(alloc, &mut disk, &mut link, case),
         _ => false,
     }

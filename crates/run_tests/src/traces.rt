@@ -243,7 +243,10 @@ fn heard_and_quiet(alloc: Global, characters: &[u8]) -> Result<Row<LinkIn>, NoMe
 }
 
 fn samples_over(alloc: Global, link: &mut MemLink) -> bool {
-    match (words_of(alloc, EQUIPMENT), disk_with(alloc, &[FRONT, b""])) {
+    match (
+        words_of(alloc, EQUIPMENT),
+        disk_with(alloc, &[FRONT, b""], 0),
+    ) {
         (Ok(words), Some(mut disk)) => {
             let end = (0, SAMPLED, "");
             tool_ends_so(alloc, &words, PLAN, SETS, 0, &mut disk, link, &end)

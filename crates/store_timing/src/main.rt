@@ -12,7 +12,7 @@ use gem_vars::VarsPlan;
 use gl_base::{NoMemory, Row};
 use line_end::{LinePlan, Times};
 use message_flow::{NodeInput, StepOut};
-use spool_file::{AREA, SLOT_SIZE, slot_place};
+use spool_file::{AREA, SLOT_SIZE, area_end, slot_place};
 use spool_slots::Raw;
 use std::alloc::Global;
 use std::process::ExitCode;
@@ -105,7 +105,7 @@ fn spooling(alloc: Global, slots: u32) -> Option<Equipment<MemDisk>> {
 
 // A disk with an empty spool of these slots.
 fn formatted(alloc: Global, slots: u32) -> Option<Raw<MemDisk>> {
-    let disk = MemDisk::new(alloc, slot_place(slots), MOST_CALLS, MOST_WRITTEN).ok()?;
+    let disk = MemDisk::new(alloc, area_end(slots), MOST_CALLS, MOST_WRITTEN).ok()?;
     match Raw::new(disk).format(slots) {
         Ok(spool) => Some(spool.retire().into_raw()),
         Err(_) => None,
