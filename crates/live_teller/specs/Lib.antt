@@ -1,0 +1,4 @@
+pub mod Callers
+pub mod Came
+pub mod Stages
+pub mod Tellings
