@@ -175,7 +175,7 @@ module _ {D : Type 0} (members : disk.Ghosts D) where
       → HoldsLeft left (Some halt) (members.told d)
   spent_left left halt spent d is has t told = has t (ap (λ (x : D). members.told x) is ∙ told)
 
-  holds_left :
+  pub holds_left :
       (going : Option (Held D)) (spent : Option (Spent D)) (d : D) → HoldsOne going spent
       → disk_in going spent ≡ Some d → (halt : Option (StopAt EquipmentView ToolCommand))
       → IsSo (IsKnown members) (LeavesDevice members) (linked going spent) halt

@@ -1,11 +1,11 @@
 mod Carrying
-mod Connecting
+pub mod Connecting
 pub mod Due
 mod EquipmentAnswered
 mod EquipmentDue
-mod Equipping
+pub mod Equipping
 mod FaultsTold
-mod Filing
+pub mod Filing
 mod FittingMade
 mod HexLaws
 mod HexMeaning

@@ -40,7 +40,7 @@ use std::alloc::Global;
 
 /// The equipment as it is run over a link: it goes on, or a step has stopped it and its device is left.
 #[derive(Drop)]
-struct LinkedEquipment<D: Disk> {
+pub struct LinkedEquipment<D: Disk> {
     going: Option<Equipment<D>>,
     spent: Option<Spent<D>>,
 }
@@ -141,6 +141,16 @@ impl<D: Disk + Drop> LinkedEnd for LinkedEquipment<D> {
 }
 
 impl<D: Disk + Drop> LinkedEquipment<D> {
+    /// One that has started, and goes on.
+    pub fn new(equipment: Equipment<D>) -> LinkedEquipment<D>
+        ensures { result ≡ record { going = Some equipment; spent = None } }
+    {
+        LinkedEquipment {
+            going: Some(equipment),
+            spent: None,
+        }
+    }
+
     // One step, with the equipment that it had in hand.
     fn step_with(
         &mut self,
@@ -213,8 +223,8 @@ impl<D: Disk + Drop> LinkedEquipment<D> {
         }
     }
 
-    // Gives its disk back.
-    fn into_disk(self) -> D
+    /// Gives its disk back.
+    pub fn into_disk(self) -> D
         requires { HoldsOne self.going self.spent }
         ensures { disk_in self.going self.spent ≡ Some result }
     {
@@ -496,8 +506,8 @@ fn run_linked<D: Disk + Drop, L: Link, W: Sink>(
     (ended, linked.into_disk())
 }
 
-// What a start that was refused comes to, and its device.
-fn not_started<D: Disk>(why: Starting<D>) -> (Outcome, D)
+/// What a start that was refused comes to, and its device.
+pub fn not_started<D: Disk>(why: Starting<D>) -> (Outcome, D)
     ensures outcome { result.0 ≡ outcome_of_start why }
     ensures disk { result.1 ≡ unstarted_disk why }
 {

@@ -224,8 +224,8 @@ fn run_host<L: Link, W: Sink>(
     ))
 }
 
-// What the end of a run came to.
-pub(crate) fn outcome_of_ending(ended: Ending) -> Outcome
+/// What the end of a run came to.
+pub fn outcome_of_ending(ended: Ending) -> Outcome
     ensures { result ≡ outcome_of_ending ended }
 {
     match ended {

@@ -60,7 +60,7 @@ fn file_limit(which: FileRole) -> usize
 }
 
 /// The plans that a file means, or why there are none.
-pub(crate) fn plans_in<F: Files>(alloc: Global, name: &str, files: &mut F) -> Result<Plans, Outcome>
+pub fn plans_in<F: Files>(alloc: Global, name: &str, files: &mut F) -> Result<Plans, Outcome>
     ensures { PlanAnswers name.now
         (files_told F.Files files.old files.new)
         result }

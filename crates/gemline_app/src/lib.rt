@@ -12,6 +12,9 @@ mod replay;
 mod run;
 mod spelling;
 
+pub use equipment::{LinkedEquipment, not_started};
+pub use host::outcome_of_ending;
+pub use inputs::plans_in;
 pub use laws::{
     equipments_are_answered, faults_are_told, hex_means_one_item, hosts_are_answered,
     outcomes_are_due, shows_whole_captures, spelled_reads_back,

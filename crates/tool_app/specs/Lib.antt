@@ -1,0 +1,4 @@
+pub mod Names
+pub mod Outcome
+pub mod Run
+pub mod Tool
