@@ -89,11 +89,11 @@ module _ {S C : Type 0} (machine : Machine S C) (start : Step S Happening) (side
       (now : ℕ) (input : Input C) (next : S) (notes : List Happening) (log : List Entry) (met : List (Meeting C))
       → AreNotesOf side log
       → course_of start machine (Acts input now ∷ met) ≡ Reached next (noted_behind notes (noted_by side log))
-      → (s : S) (stops : List (List Happening)) (asked : Asked) (fills : Bool) (reply written : List ℕ)
+      → (s : S) (stops : List (List Happening)) (asked : Asked) (lacks_room : Bool) (reply written : List ℕ)
       → Behind log met
-      (made (step_at side now input s) stops asked fills reply
+      (made (step_at side now input s) stops asked lacks_room reply
       (Goes (record { next = next; notes = notes; written = written })))
-  goes-so now input next notes log met own is s stops asked fills reply [] =
+  goes-so now input next notes log met own is s stops asked lacks_room reply [] =
       subst (λ (l : List Entry). IsSo None next l (Acts input now ∷ met))
       (sym (one-log (entries_at side now (notes ++ [])) log))
       (on-way next (entries_at side now (notes ++ []) ++ log) (Acts input now ∷ met)
@@ -101,7 +101,7 @@ module _ {S C : Type 0} (machine : Machine S C) (start : Step S Happening) (side
       (at-noted now side (notes ++ []) log
       ∙ ap (λ (ns : List Happening). noted_behind ns (noted_by side log)) (append-nil notes))
       is)
-  goes-so now input next notes log met own is s stops asked fills reply (byte ∷ bytes) =
+  goes-so now input next notes log met own is s stops asked lacks_room reply (byte ∷ bytes) =
       let written = Happening.Wrote (byte ∷ bytes) ∷ [] in
       subst (λ (l : List Entry). IsSo None next l (WritesDown (byte ∷ bytes) ∷ Acts input now ∷ met))
       (sym (one-log (entries_at side now (notes ++ written)) log))
@@ -117,9 +117,9 @@ module _ {S C : Type 0} (machine : Machine S C) (start : Step S Happening) (side
       (now : ℕ) (input : Input C) (step : Step S Happening) (log : List Entry) (met : List (Meeting C))
       → AreNotesOf side log
       → course_of start machine (Acts input now ∷ met) ≡ Stopped (noted_behind step.notes (noted_by side log))
-      → (s : S) (stops : List (List Happening)) (asked : Asked) (fills : Bool) (reply : List ℕ)
-      → Behind log met (made (step_at side now input s) stops asked fills reply (Spent step))
-  spent-so now input step log met own is s stops asked fills reply = go fills
+      → (s : S) (stops : List (List Happening)) (asked : Asked) (lacks_room : Bool) (reply : List ℕ)
+      → Behind log met (made (step_at side now input s) stops asked lacks_room reply (Spent step))
+  spent-so now input step log met own is s stops asked lacks_room reply = go lacks_room
     where
       notes : notes_of (course_of start machine (Acts input now ∷ met))
           ≡ noted_behind step.notes (noted_by side log)
@@ -139,7 +139,8 @@ module _ {S C : Type 0} (machine : Machine S C) (start : Step S Happening) (side
           subst (λ (l : List Entry). IsSo (Some ended) step.next l (Acts input now ∷ met))
           (sym (one-log (entries_at side now step.notes) log)) is_so
 
-      go : (fills : Bool) → Behind log met (made (step_at side now input s) stops asked fills reply (Spent step))
+      go : (lacks_room : Bool)
+          → Behind log met (made (step_at side now input s) stops asked lacks_room reply (Spent step))
       go true =
           so ending.Full (record { notes = at-own now side step.notes log own; noted = noted; comes = stopped })
       go false =
@@ -159,13 +160,13 @@ module _ {S C : Type 0} (machine : Machine S C) (start : Step S Happening) (side
       go : (went : Went S Happening) → machine.act s input now ≡ went
           → Behind log met
           (made (step_at side now input s) (machine.stops s input now) (machine.asks s input now)
-          (machine.fills s input now) reply went)
+          (machine.lacks_room s input now) reply went)
       go (Goes step) is =
           goes-so now input step.next step.notes log met so.notes (acted (Goes step) is) s (machine.stops s input now)
-          (machine.asks s input now) (machine.fills s input now) reply step.written
+          (machine.asks s input now) (machine.lacks_room s input now) reply step.written
       go (Spent step) is =
           spent-so now input step log met so.notes (acted (Spent step) is) s (machine.stops s input now)
-          (machine.asks s input now) (machine.fills s input now) reply
+          (machine.asks s input now) (machine.lacks_room s input now) reply
 
   step-so :
       (now : ℕ) (input : Input C) (s : S) (log : List Entry) (met : List (Meeting C)) → IsSo None s log met

@@ -91,15 +91,15 @@ module _ {S C Q : Type 0} (machine : Machine S C) (due : S → Option ℕ) (comm
           (given-both takes (met_by (more first.end).acts) (met_by first.acts) (two first.end) one)
 
   made-given :
-      (now : ℕ) (input : Input C) (s : S) (stops : List (List Happening)) (asked : Asked) (fills : Bool)
+      (now : ℕ) (input : Input C) (s : S) (stops : List (List Happening)) (asked : Asked) (lacks_room : Bool)
       (reply : List ℕ) (went : Went S Happening)
-      → MayTake takes input → MayMeet (made (step_at side now input s) stops asked fills reply went)
-  made-given now input s stops asked fills reply (Spent step) may = (may, tt)
-  made-given now input s stops asked fills reply (Goes step) may = go step.written
+      → MayTake takes input → MayMeet (made (step_at side now input s) stops asked lacks_room reply went)
+  made-given now input s stops asked lacks_room reply (Spent step) may = (may, tt)
+  made-given now input s stops asked lacks_room reply (Goes step) may = go step.written
     where
       go : (written : List ℕ)
           → MayMeet
-          (made (step_at side now input s) stops asked fills reply
+          (made (step_at side now input s) stops asked lacks_room reply
           (Goes (record { next = step.next; notes = step.notes; written = written })))
       go [] = (may, tt)
       go (byte ∷ bytes) = (tt, (may, tt))
@@ -107,8 +107,8 @@ module _ {S C Q : Type 0} (machine : Machine S C) (due : S → Option ℕ) (comm
   replied-given : (reply : List ℕ) (now : ℕ) (input : Input C) → MayTake takes input → (s : S)
       → MayMeet (replied machine side reply now input s)
   replied-given reply now input may s =
-      made-given now input s (machine.stops s input now) (machine.asks s input now) (machine.fills s input now) reply
-      (machine.act s input now) may
+      made-given now input s (machine.stops s input now) (machine.asks s input now) (machine.lacks_room s input now)
+      reply (machine.act s input now) may
 
   step-given : (now : ℕ) (input : Input C) → MayTake takes input → (s : S)
       → MayMeet (stepped machine side now input s)

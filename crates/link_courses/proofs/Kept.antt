@@ -7,7 +7,7 @@ use Rattle.message_end.specs.Course.Course.{Reached, Stopped}
 use Rattle.message_end.specs.Course.Meeting.{Acts, Breaks, Fills, LosesPower, Restarts, Writes}
 use Rattle.message_end.specs.Ends.{Loss, call_of}
 use Rattle.disk_base.specs.declared.cut.CutChoice.{CutChoice}
-use Rattle.spool_law.specs.Shelf.{Policy}
+use Rattle.spool_law.specs.Shelf.{KeepsSpoolFrom, Policy}
 use Rattle.spool_file.specs.File.{SpoolFile}
 use Rattle.spool_works.specs.Found.{found_in}
 use Rattle.trace_log.specs.Log.{Happening}
@@ -19,7 +19,7 @@ use Rattle.tool_reports.specs.Laws.{ReportsAreOfTheirEvents}
 use Rattle.tool_reports.specs.Reported.{Reported, due_behind}
 use Rattle.tool_spool.specs.LeavesInStep.{LeaveInTheirSteps, MessagesLeaveInStep}
 use Rattle.tool_spool.specs.MadeRoom.{IsRoomUsed, LeavesNoRoom, MakesRoomForPuts, OverwritesForPuts}
-use Rattle.tool_spool.specs.SpoolKept.{KeepsSpoolFrom, MayHold, SpoolIsKeptFrom, policy_of}
+use Rattle.tool_spool.specs.SpoolKept.{MayHold, SpoolIsKeptFrom, policy_of}
 use Rattle.tool_step.specs.End.{machine}
 use Rattle.tool_step.specs.Equipment.{EquipmentView, started_on}
 use Rattle.tool_step.specs.Losses.{losses}

@@ -186,7 +186,7 @@ module _ {S C : Type 0} (plan : EndPlan) (did : ℕ → List Doing → S → Typ
     base = law.starts.base;
     start = law.starts.note;
     starts = law.starts.of_side;
-    doings = [];
+    doings = law.starts.said;
     noted = ap (λ (ns : List Happening). noted_behind ns []) law.starts.notes;
     made = law.starts.is;
   }

@@ -4,6 +4,7 @@ mod Hosts
 mod Kept
 mod Lawful
 mod Lists
+mod Living
 mod Noting
 mod Numbered
 mod Replying

@@ -232,7 +232,7 @@ has-noted machine start side run a b course writes result over =
           subst (AreWritten result a.received b.received) (lines-alone is.done is.lines) is.written;
     }
 
-any-reply : {C : Type 0} (tellings : List (Telling C)) → All (RepliesSo AnyReply) tellings
+pub any-reply : {C : Type 0} (tellings : List (Telling C)) → All (RepliesSo AnyReply) tellings
 any-reply [] = All-nil (RepliesSo AnyReply)
 any-reply (Tells command reply ∷ tellings) =
     All-cons (RepliesSo AnyReply) (Tells command reply) tellings tt (any-reply tellings)

@@ -15,7 +15,7 @@ use Rattle.message_end.specs.Core.Went.{Goes, Spent}
 use Rattle.message_end.specs.Course.{Course, Meeting, course_of, notes_of, with_meeting}
 use Rattle.message_end.specs.Course.Course.{Reached, Stopped}
 use Rattle.message_end.specs.Course.Meeting.{Acts, Breaks, Fills, LosesPower, Restarts, Writes}
-use Rattle.message_end.specs.Ends.{KeepsLaw}
+use Rattle.message_end.specs.Ends.{Asked as RoomAsked, KeepsLaw}
 use Rattle.trace_log.specs.Commands.{ToolCommandFits}
 use Rattle.trace_log.specs.Log.{Happening}
 use Rattle.trace_log.specs.declared.commands.ToolCommand.{ToolCommand}
@@ -35,12 +35,17 @@ use Rattle.tool_step.specs.End.{machine}
 use Rattle.tool_step.specs.Equipment.{EquipmentView, is_marked_out, started_on, starts, unstarted}
 use Rattle.tool_step.specs.Step.{end_plan}
 use Rattle.end_pair.specs.Noted.{noted_by}
+use Rattle.end_run.specs.Acts.{log_of}
+use Rattle.end_run.specs.Commands.{Commands}
+use Rattle.end_run.specs.Outcome.{RunsOver}
 use Rattle.end_run.specs.Pieces.{Piece}
+use Rattle.end_run.specs.Run.{commanded_run}
+use Rattle.end_run.specs.Scenes.{StopAt}
 use Rattle.end_run.specs.Script.{AreTold, ScriptLine, by_script}
 use Rattle.end_run.specs.Sides.{told_equipment}
 use Rattle.end_run.specs.declared.ending.Ending.{Ending}
 use Rattle.end_run.proofs.Sides.{are_told_tool}
-use Rattle.gemline_app.specs.Equipment.{EquipmentComes, FileRuns, RanOver, WasRunOn, bytes_told, equipment_due, equipment_run, linked_machine}
+use Rattle.gemline_app.specs.Equipment.{EquipmentComes, FileRuns, WasRunOn, bytes_told, equipment_due, equipment_run, linked_machine}
 use Rattle.gemline_app.specs.Files.{PlansAre}
 use Rattle.gemline_app.specs.Gemline.{RunComes}
 use Rattle.gemline_app.specs.Inputs.{WasRead}
@@ -51,15 +56,15 @@ use Rattle.gemline_app.specs.declared.outcome.Outcome.{Outcome}
 use Rattle.link_courses.specs.Courses.{ComesTo, IsCourse, met_by, with_closing}
 use Rattle.link_courses.specs.Equipment.{EquipmentsKeepTheirLaws, KeepsLaws, RanInCourse, RanLawfully}
 use Rattle.link_courses.specs.Lawful.{GiveBytes, KeepsLawOfEnd}
-use Rattle.link_courses.specs.Noting.{HasNoted, NoReply}
+use Rattle.link_courses.specs.Noting.{HasDone, NoReply, ReplySo}
 use Rattle.link_courses.proofs.Coming.{run-so}
-use Rattle.link_courses.proofs.Given.{run-given, script-brings}
+use Rattle.link_courses.proofs.Given.{AreGiven, run-given, script-brings}
 use Rattle.link_courses.proofs.Kept.{closing-keeps, first-keeps}
 use Rattle.link_courses.proofs.Lawful.{first-done}
-use Rattle.link_courses.proofs.Noting.{has-noted, there-first}
+use Rattle.link_courses.proofs.Noting.{has-done, there-first}
 use Rattle.link_courses.proofs.Numbered.{may-hold}
 use Rattle.link_courses.proofs.Replying.{replies-noted}
-use Rattle.link_courses.proofs.Writing.{run-writes, script-silent, tool-silent}
+use Rattle.link_courses.proofs.Writing.{lines-alone, run-writes, script-silent, tool-silent}
 
 -- ---- a course over a link is one of the equipment
 
@@ -81,12 +86,17 @@ course-same start (meeting ∷ met) =
     ap (λ (c : Course EquipmentView). with_meeting linked_machine meeting c) (course-same start met)
     ∙ meeting-same meeting (course_of start machine met)
 
+abbrev run_by : {Q : Type 0} → Commands Q ToolCommand → Q → ℕ → Step EquipmentView Happening → List LinkIn
+    → Piece EquipmentView ToolCommand
+run_by commands coming polls start =
+    commanded_run linked_machine equipment_due commands side.Equipment start coming polls
+
 is-course :
-    (start : Step EquipmentView Happening) (lines : List ScriptLine) (polls : ℕ) (answers : List LinkIn)
-    → IsCourse machine start side.Equipment (equipment_run start lines polls answers)
-is-course start lines polls answers =
-    let run = equipment_run start lines polls answers in
-    let is = run-so linked_machine start side.Equipment equipment_due (by_script told_equipment) lines polls answers in
+    {Q : Type 0} (commands : Commands Q ToolCommand) (coming : Q) (polls : ℕ) (start : Step EquipmentView Happening)
+    (answers : List LinkIn) → IsCourse machine start side.Equipment (run_by commands coming polls start answers)
+is-course commands coming polls start answers =
+    let run = run_by commands coming polls start answers in
+    let is = run-so linked_machine start side.Equipment equipment_due commands coming polls answers in
     let same = course-same start (met_by run.acts) in
     record {
       notes = is.notes;
@@ -118,12 +128,12 @@ start-is plan file start is =
 module _ (law : EquipmentKeepsItsLaw) (reports : ReportsAreOfTheirEvents) (spool : SpoolIsKeptFrom)
     (leaves : MessagesLeaveInStep) (room : OverwritesForPuts) where
   module _ (plan : EquipmentPlan) (fits : EquipmentPlanFits plan) (file : SpoolFile) (some : 0 < file.slots)
-      (most : file.slots < 2 ^ 16) (may : MayHold file) (lines : List ScriptLine)
-      (told : AreTold told_equipment ToolCommandFits lines) (polls : ℕ) where
+      (most : file.slots < 2 ^ 16) (may : MayHold file) {Q : Type 0} (commands : Commands Q ToolCommand) (coming : Q)
+      (polls : ℕ) where
     module _ (start : Step EquipmentView Happening) (started : starts plan file ≡ Goes start)
         (answers : List LinkIn) where
       abbrev run : Piece EquipmentView ToolCommand
-      run = equipment_run start lines polls answers
+      run = run_by commands coming polls start answers
 
       abbrev whole : List Happening
       whole = with_closing run.ended (notes_of (course_of start machine (met_by run.acts)))
@@ -136,7 +146,7 @@ module _ (law : EquipmentKeepsItsLaw) (reports : ReportsAreOfTheirEvents) (spool
           → KeepsLaws plan file (with_closing run.ended (notes_of (course_of first machine (met_by run.acts)))))
           (start-is plan file start started)
           (closing-keeps reports spool leaves room plan fits file some most may (met_by run.acts) run.ended run.end)
-          (is-course start lines polls answers).comes
+          (is-course commands coming polls start answers).comes
 
       kept-law : KeepsLaw (end_plan plan) (DidOf plan) ToolCommandFits (Goes start) machine
       kept-law =
@@ -145,52 +155,73 @@ module _ (law : EquipmentKeepsItsLaw) (reports : ReportsAreOfTheirEvents) (spool
           KeepsLaw (end_plan plan) (DidOf plan) ToolCommandFits went machine)
           started (law plan file fits may.sent)
 
-      first-lawful : (later noted : List Happening) → whole ≡ later ++ noted → GiveBytes answers
+      first-lawful : (later noted : List Happening) → whole ≡ later ++ noted
+          → AreGiven ToolCommandFits (met_by run.acts)
           → KeepsLawOfEnd (end_plan plan) (AreTried (end_plan plan)) noted
-      first-lawful later noted is bytes =
+      first-lawful later noted is given =
           let done =
           first-done (end_plan plan) (DidOf plan) ToolCommandFits start machine kept-law (AreTried (end_plan plan))
           (λ base doings s did. did.tried) (λ doing before tried. tried.1) (λ doings tried. (tt, tried)) run.ended
-          (met_by run.acts) later noted
-          (run-given linked_machine equipment_due (by_script told_equipment) side.Equipment ToolCommandFits
-          (AreTold told_equipment ToolCommandFits) (script-brings told_equipment ToolCommandFits) start lines polls
-          answers told bytes) is
+          (met_by run.acts) later noted given is
           in
           record {
             done = done;
             replies = replies-noted (end_plan plan) (AreTried (end_plan plan)) noted done;
           }
 
-    over-so : (disk : DiskTold) (link : LinkTold) (out : SinkTold) (ended : Ending)
-        → RanOver plan file lines polls (bytes_told disk) link out ended
-        → RanInCourse plan file lines polls link out ended
-    over-so disk link out ended over =
-        let start = over.start in
-        let ran = over.ran in
-        let a = before_run link out start.next in
-        let b = after_run link out ran.left ran.room ran.stop in
-        let noted : HasNoted machine start side.Equipment (equipment_run start lines polls) a b ended =
-        has-noted machine start side.Equipment (equipment_run start lines polls) a b
-        (is-course start lines polls)
-        (run-writes NoReply refl linked_machine equipment_due (by_script told_equipment)
-        (script-silent told_equipment tool-silent) side.Equipment start lines polls)
-        ended ran.runs
-        in
-        let first = there-first ended (whole start over.started noted.answers)
-        (noted_by side.Equipment noted.log) noted.there in
-        record {
-          start = start;
-          started = over.started;
-          left = ran.left;
-          room = ran.room;
-          stop = ran.stop;
-          noted = noted;
-          keeps =
-              first-keeps plan file (whole start over.started noted.answers) first.later
-              (noted_by side.Equipment noted.log) first.is (whole-keeps start over.started noted.answers);
-          lawful =
-              first-lawful start over.started noted.answers first.later (noted_by side.Equipment noted.log) first.is;
-        }
+    module _ (Such : List ℕ → Type 0) (none : Such []) (replies : ReplySo Such commands)
+        (IsGiven : List LinkIn → Type 0)
+        (given :
+        (start : Step EquipmentView Happening) (answers : List LinkIn) → IsGiven answers
+        → AreGiven ToolCommandFits (met_by (run_by commands coming polls start answers).acts)) where
+      run-keeps : (link : LinkTold) (out : SinkTold) (ended : Ending) (start : Step EquipmentView Happening)
+          → starts plan file ≡ Goes start → (left : EquipmentView) (room : RoomAsked)
+          (stop : Option (StopAt EquipmentView ToolCommand))
+          → RunsOver (before_run link out start.next) (after_run link out left room stop)
+          (run_by commands coming polls start) ended
+          → RanInCourse Such IsGiven plan file (run_by commands coming polls) link out ended
+      run-keeps link out ended start started left room stop runs =
+          let has : HasDone Such machine start side.Equipment (run_by commands coming polls start)
+          (before_run link out start.next) (after_run link out left room stop) ended =
+          has-done Such none machine start side.Equipment (run_by commands coming polls start)
+          (before_run link out start.next) (after_run link out left room stop)
+          (is-course commands coming polls start)
+          (run-writes Such none linked_machine equipment_due commands replies side.Equipment start coming polls) ended
+          runs
+          in
+          let noted = noted_by side.Equipment (log_of has.done) in
+          let first = there-first ended (whole start started has.answers) noted has.there in
+          record {
+            start = start;
+            started = started;
+            left = left;
+            room = room;
+            stop = stop;
+            has = has;
+            keeps =
+                first-keeps plan file (whole start started has.answers) first.later noted first.is
+                (whole-keeps start started has.answers);
+            lawful = λ is.
+                first-lawful start started has.answers first.later noted first.is (given start has.answers is);
+          }
+
+  -- over bytes that stand for a spool
+  pub sound-keeps :
+      (plan : EquipmentPlan) → EquipmentPlanFits plan → (bytes : List ℕ) → spool_break bytes ≡ None
+      → All (λ byte. byte < 256) bytes → {Q : Type 0} (commands : Commands Q ToolCommand) (coming : Q) (polls : ℕ)
+      (Such : List ℕ → Type 0) → Such [] → ReplySo Such commands → (IsGiven : List LinkIn → Type 0)
+      → ((start : Step EquipmentView Happening) (answers : List LinkIn) → IsGiven answers
+      → AreGiven ToolCommandFits (met_by (run_by commands coming polls start answers).acts))
+      → (link : LinkTold) (out : SinkTold) (ended : Ending) (start : Step EquipmentView Happening)
+      → starts plan (file_in bytes) ≡ Goes start → (left : EquipmentView) (room : RoomAsked)
+      (stop : Option (StopAt EquipmentView ToolCommand))
+      → RunsOver (before_run link out start.next) (after_run link out left room stop)
+      (run_by commands coming polls start) ended
+      → RanInCourse Such IsGiven plan (file_in bytes) (run_by commands coming polls) link out ended
+  sound-keeps plan fits bytes sound are commands coming polls Such none replies IsGiven given =
+      let slots = sound_slots bytes sound in
+      run-keeps plan fits (file_in bytes) slots.some (omega (arith, slots.most)) (may-hold bytes sound are) commands
+      coming polls Such none replies IsGiven given
 
   -- ---- by its words
 
@@ -213,8 +244,17 @@ module _ (law : EquipmentKeepsItsLaw) (reports : ReportsAreOfTheirEvents) (spool
         → IsScript side.Equipment text lines
         → WasRunOn plans.equipment lines polls (bytes_told disk) link out outcome → KeptOr
     run-kept plans are text read lines script was =
-        let sound : spool_break s.now.bytes ≡ None = was.sound s told in
-        let slots = sound_slots s.now.bytes sound in
+        let over = was.ran s told in
+        let run : RanInCourse NoReply GiveBytes plans.equipment (file_in s.now.bytes)
+        (λ start. equipment_run start lines polls) link out was.ended =
+        sound-keeps plans.equipment are.is.fits.equipment s.now.bytes (was.sound s told) bytes (by_script told_equipment)
+        lines polls NoReply refl (script-silent told_equipment tool-silent) GiveBytes
+        (λ start answers given.
+        run-given linked_machine equipment_due (by_script told_equipment) side.Equipment ToolCommandFits
+        (AreTold told_equipment ToolCommandFits) (script-brings told_equipment ToolCommandFits) start lines polls answers
+        (lines-told text lines script) given)
+        link out was.ended over.start over.started over.ran.left over.ran.room over.ran.stop over.ran.runs
+        in
         inr (record {
           plans = plans;
           plans_are = are;
@@ -224,10 +264,8 @@ module _ (law : EquipmentKeepsItsLaw) (reports : ReportsAreOfTheirEvents) (spool
           script = script;
           ended = was.ended;
           outcome_is = was.outcome_is;
-          ran =
-              over-so plans.equipment are.is.fits.equipment (file_in s.now.bytes) slots.some
-              (omega (arith, slots.most)) (may-hold s.now.bytes sound bytes) lines (lines-told text lines script) polls
-              disk link out was.ended (was.ran s told);
+          ran = run;
+          alone = lines-alone run.has.done run.has.lines;
         })
 
     file-kept :

@@ -97,16 +97,16 @@ module _ {S C Q : Type 0} (Such : List ℕ → Type 0) (none : Such []) (machine
   sends-write (byte ∷ bytes) = (tt, tt)
 
   made-writes :
-      (at : StepAt S C) (stops : List (List Happening)) (asked : Asked) (fills : Bool) (reply : List ℕ) → Such reply
-      → (went : Went S Happening) → Writing (made at stops asked fills reply went)
-  made-writes at stops asked fills reply such (Goes step) = (tt, ((reply, refl, such), sends-write step.written))
-  made-writes at stops asked fills reply such (Spent step) = (tt, (([], refl, none), tt))
+      (at : StepAt S C) (stops : List (List Happening)) (asked : Asked) (lacks_room : Bool) (reply : List ℕ)
+      → Such reply → (went : Went S Happening) → Writing (made at stops asked lacks_room reply went)
+  made-writes at stops asked lacks_room reply such (Goes step) = (tt, ((reply, refl, such), sends-write step.written))
+  made-writes at stops asked lacks_room reply such (Spent step) = (tt, (([], refl, none), tt))
 
   replied-writes : (reply : List ℕ) → Such reply → (now : ℕ) (input : Input C) (s : S)
       → Writing (replied machine side reply now input s)
   replied-writes reply such now input s =
       made-writes (step_at side now input s) (machine.stops s input now) (machine.asks s input now)
-      (machine.fills s input now) reply such (machine.act s input now)
+      (machine.lacks_room s input now) reply such (machine.act s input now)
 
   step-writes : (now : ℕ) (input : Input C) (s : S) → Writing (stepped machine side now input s)
   step-writes = replied-writes [] none

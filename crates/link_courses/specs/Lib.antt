@@ -3,4 +3,5 @@ pub mod Equipment
 pub mod Host
 pub mod Lawful
 pub mod Noting
+pub mod Tool
 pub mod Worked

@@ -4,6 +4,7 @@ ghost use Rattle.link_courses.specs.Courses.{RunsAreCourses};
 ghost use Rattle.link_courses.specs.Equipment.{EquipmentsKeepTheirLaws};
 ghost use Rattle.link_courses.specs.Host.{HostsKeepTheirLaws};
 ghost use Rattle.link_courses.specs.Noting.{RunsNoteCourses};
+ghost use Rattle.link_courses.specs.Tool.{ToolsKeepTheirLaws};
 ghost use Rattle.link_courses.specs.Worked.{TellsItsCourse};
 
 use end_run::LinkedEnd;
@@ -34,6 +35,19 @@ pub fn worked_courses()
 /// courses holds of it, as of a replay. Where the link gives bytes it is of doings that keep the law of an end.
 pub fn equipments_keep_their_laws()
     ensures { EquipmentsKeepTheirLaws }
+{
+    equipment_keeps_the_law();
+    reports_are_of_their_events();
+    spool_is_kept();
+    messages_leave_in_step();
+    overwrites_for_puts();
+}
+
+/// Each run of `tool` over a disk that tells its bytes, whatever link and output do and whatever comes beside the link,
+/// keeps the same laws. Where the link gives bytes and the tool is told commands that it takes, as those of an input that
+/// is told are, it is of doings that keep the law of an end.
+pub fn tools_keep_their_laws()
+    ensures { ToolsKeepTheirLaws }
 {
     equipment_keeps_the_law();
     reports_are_of_their_events();

@@ -5,5 +5,5 @@ mod laws;
 
 pub use laws::{
     equipments_keep_their_laws, hosts_keep_their_laws, runs_are_courses, runs_note_courses,
-    worked_courses,
+    tools_keep_their_laws, worked_courses,
 };
