@@ -1,5 +1,5 @@
 -- The range of what some calls write.
-use Rattle.std.proofs.Common.{ℕ, ◌+◌, ◌≤◌, min, max, List, [], ◌∷◌, fold, arith}
+use Rattle.std.proofs.Common.{ℕ, ◌+◌, ◌≤◌, List, [], ◌∷◌, fold, arith}
 use Rattle.disk_base.specs.Log.{AreHeld, AreSized, IsHeld, hull_behind, hull_under}
 use Rattle.disk_base.specs.declared.disk.CallKind.{CallKind}
 use Rattle.disk_base.specs.declared.disk.CallKind.TheVariants.{Attach, Read, Write, Sync}

@@ -1,6 +1,7 @@
 //! What a crash leaves: a chosen byte in each range written since the last good sync, and in all others the bytes now.
 
-ghost use Rattle.std.specs.Prelude.{◌≡◌, ℕ, ◌+◌, ◌^◌, ◌<◌, ◌≤◌, List, [], ◌++◌, true, false, drop, fold, length, replicate, IfOk};
+ghost use Rattle.std.specs.Prelude.{◌≡◌, ℕ, ◌+◌, ◌^◌, ◌<◌, ◌≤◌, true, false, IfOk};
+ghost use Rattle.std.specs.Prelude.{List, [], ◌++◌, drop, fold, length, replicate};
 ghost use Rattle.disk_base.specs.Cut.{byte_left, bytes_left, choice_left, marks_at, marks_of};
 ghost use Rattle.disk_base.specs.Log.{AreHeld, AreSized, IsHeld, hull_under, loose_behind, loose_under};
 ghost use Rattle.disk_base.specs.Story.{with_part};

@@ -1,7 +1,7 @@
 //! `spool_slots` and `gem_spool`: what each call of a put of several slots leaves where the disk stops at it, whatever
 //! becomes of what isn't synced; also of one that finds stale gates, and of one that takes the place of two messages.
 
-use crate::long_messages::{LONG, PAIR, formatted, put};
+use crate::long_messages::{LONG, PAIR, put, without_area};
 use crate::spool_list::{filled, leaves};
 use disk_base::{CutChoice, MemDisk};
 use gem_spool::{GemSpool, PutAnswer};
@@ -65,7 +65,7 @@ enum Work {
 
 // A spool of four slots in which four messages were cleared, whose gates are open still.
 fn cleared(alloc: Global) -> Option<Spool<MemDisk>> {
-    let mut spool = formatted(alloc, 4)?;
+    let mut spool = without_area(alloc, 4)?;
     for _ in 0..4 {
         match put(spool, &[1, 0]) {
             Ok(more) => spool = more,
@@ -105,7 +105,7 @@ fn overwrite(spool: GemSpool<MemDisk>) -> Result<(GemSpool<MemDisk>, bool), MemD
 // The disk behind a work that stops at a call. None where it comes to something else.
 fn stopped(alloc: Global, work: Work, call: u32) -> Option<MemDisk> {
     match work {
-        Work::Put => Some(put_long(formatted(alloc, 16)?, call)),
+        Work::Put => Some(put_long(without_area(alloc, 16)?, call)),
         Work::PutOverStale => Some(put_long(cleared(alloc)?, call)),
         Work::Overwrite => {
             let mut spool = filled(alloc)?;

@@ -4,7 +4,7 @@
 ghost use Rattle.std.specs.Prelude.{◌≤◌, length};
 
 use disk_base::{CutChoice, Disk, DiskAnswer, MemDisk, settle};
-use spool_file::{NotSpool, SLOT_SIZE, area_end};
+use spool_file::{NotSpool, SLOT_SIZE, area_end, slot_place};
 use spool_slots::{OldestAnswer, Raw, Recovering, Spool, Staging, Stored};
 use std::alloc::Global;
 use std::test::Fail;
@@ -27,6 +27,17 @@ pub(crate) fn formatted(alloc: Global, slots: u32) -> Option<Spool<MemDisk>> {
         Ok(spool) => Some(spool),
         Err(_) => None,
     }
+}
+
+// The same of a file without an area, which is copied faster at each cut.
+pub(crate) fn without_area(alloc: Global, slots: u32) -> Option<Spool<MemDisk>> {
+    let mut disk = MemDisk::new(alloc, slot_place(slots), 1000, 1048576).ok()?;
+    if disk.size() < 4096 {
+        return None;
+    }
+    let _ = settle(&mut disk, 0, &FRONT);
+    let _ = settle(&mut disk, 8, &slots.to_be_bytes());
+    Raw::new(disk).recover().ok()
 }
 
 // Puts an S6F11, and hands the disk back where that wasn't done.

@@ -2,7 +2,7 @@
 
 ghost use Rattle.std.specs.Prelude.{◌≤◌, length};
 
-use crate::long_messages::formatted;
+use crate::long_messages::{formatted, without_area};
 use disk_base::{CutChoice, Disk, MemDisk, settle};
 use spool_file::NotSpool;
 use spool_slots::{Dropping, Raw, Recovering, Reserving, Spool, Staging, Stored};
@@ -147,7 +147,7 @@ pub(crate) fn refuses(spool: Spool<MemDisk>, body: &[u8]) -> (bool, bool, bool) 
 
 // A spool of three slots after so many puts.
 pub(crate) fn filled(alloc: Global, puts: u32) -> Option<Spool<MemDisk>> {
-    let Some(mut spool) = formatted(alloc, 3) else {
+    let Some(mut spool) = without_area(alloc, 3) else {
         return None;
     };
     for _ in 0..puts {

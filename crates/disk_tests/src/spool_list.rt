@@ -1,6 +1,6 @@
 //! `gem_spool`: each call of the spool as a change of its list, and that a purge leaves all or nothing where it stops.
 
-use crate::long_messages;
+use crate::long_messages::without_area;
 use disk_base::{CutChoice, Disk, MemDisk, settle};
 use gem_spool::{GemSpool, PutAnswer, Room};
 use spool_slots::{OldestAnswer, Raw, Spool, Stored};
@@ -78,7 +78,7 @@ static WHOLE: [Row; 5] = [
 
 // A new spool of three slots.
 pub(crate) fn formatted(alloc: Global) -> Option<GemSpool<MemDisk>> {
-    Some(GemSpool::new(long_messages::formatted(alloc, 3)?))
+    Some(GemSpool::new(without_area(alloc, 3)?))
 }
 
 // Puts an S6F11.
@@ -156,7 +156,7 @@ pub(crate) fn with_two(alloc: Global) -> Option<GemSpool<MemDisk>> {
 
 // A spool of one slot, which holds number 0.
 pub(crate) fn with_one(alloc: Global) -> Option<GemSpool<MemDisk>> {
-    behind(GemSpool::new(long_messages::formatted(alloc, 1)?), &FIRST)
+    behind(GemSpool::new(without_area(alloc, 1)?), &FIRST)
 }
 
 fn goes_on(alloc: Global) -> bool {

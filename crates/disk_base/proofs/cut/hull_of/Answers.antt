@@ -1,8 +1,8 @@
 -- The range lies within the disk, and holds all calls.
 
-use Rattle.std.proofs.Common.{◌≡◌, ℕ, ◌≤◌, ◌∙◌, List, [], fold, arith, rules, ap, sym}
+use Rattle.std.proofs.Common.{◌≤◌, ◌∙◌, List, fold, arith, rules, ap, sym}
 use Rattle.std.proofs.lemmas.List.{nil_from_length}
-use Rattle.disk_base.specs.Log.{AreHeld, hull_behind}
+use Rattle.disk_base.specs.Log.{hull_behind}
 use Rattle.disk_base.specs.declared.log.LoggedCall.{LoggedCall}
 use Rattle.disk_base.proofs.Hulls.{hull_holds, hull_within}
 use Rattle.disk_base.proofs.cut.hull_of.Goals as goal

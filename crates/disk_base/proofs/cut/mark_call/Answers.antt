@@ -1,6 +1,6 @@
 -- A part of the marks is marked, and so it is among all marks.
 
-use Rattle.std.proofs.Common.{◌≡◌, ℕ, ◌+◌, ◌-◌, ◌≤◌, ◌∙◌, true, List, Bool, length, replicate, ap, sym, subst, arith, rules}
+use Rattle.std.proofs.Common.{◌≡◌, ℕ, ◌+◌, ◌-◌, ◌≤◌, ◌∙◌, true, List, Bool, length, replicate, ap, sym, subst, arith}
 use Rattle.std.proofs.lemmas.List.{length-replicate}
 use Rattle.disk_base.specs.Cut.{marks_at, marks_of}
 use Rattle.disk_base.specs.Log.{IsHeld, loose_under}

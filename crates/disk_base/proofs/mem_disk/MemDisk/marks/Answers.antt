@@ -1,6 +1,6 @@
 -- The marked places are those of the loose ranges, which lie within the disk.
 
-use Rattle.std.proofs.Common.{◌≡◌, ◌∙◌, ℕ, List, Bool, length, ap, rules}
+use Rattle.std.proofs.Common.{◌≡◌, ◌∙◌, ℕ, ap, rules}
 use Rattle.std.proofs.lemmas.Result.{IfOk-weaker}
 use Rattle.disk_base.specs.Cut.{marks_at, marks_of}
 use Rattle.disk_base.specs.MemDisk.{DiskState, disk_size}
