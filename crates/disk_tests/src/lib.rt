@@ -24,6 +24,8 @@ mod recipe_store;
 #[cfg(test)]
 mod recipes;
 #[cfg(test)]
+mod setups;
+#[cfg(test)]
 mod shown_spool;
 #[cfg(test)]
 mod slot_file;

@@ -8,7 +8,7 @@ use Rattle.std.proofs.lemmas.Nat.{be_bytes_4}
 use Rattle.std.proofs.Math.Seq.{take-append-add}
 use Rattle.std.specs.Int.{w32, from_be_bytes, to_be_bytes}
 use Rattle.spool_file.specs.declared.reading.NotSpool.{NotSpool}
-use Rattle.setup_store.specs.Entries.{AreBytesOf, Entry, IsEntry, bad_byte, behind_first, bytes_of, ends_at, entries_in, entries_within, entry_bytes, first_by, first_in, is_kept, is_kept_stream, with_first}
+use Rattle.setup_store.specs.Entries.{Entry, IsEntry, bad_byte, behind_first, bytes_of, ends_at, entries_in, entries_within, entry_bytes, first_by, first_in, is_kept, is_kept_stream, with_first}
 use Rattle.setup_store.specs.Laws.{AreBytes, BreaksAt, CanGoOn, CannotGoOn}
 use Rattle.setup_store.proofs.ReadLists.{are_before, are_behind, are_rest, below, first_cut, first_is, first_spelled, kept_stream, takes}
 

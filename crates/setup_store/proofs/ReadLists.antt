@@ -1,5 +1,5 @@
 -- A list is read as it was spelled.
-use Rattle.std.proofs.Common.{◌≡◌, refl, sym, ◌∙◌, ap, subst, Bool, true, false, cond, not, ◌&&◌, ◌||◌, ◌==◌, ℕ, zero, suc, ◌+◌, ◌-◌, ◌<◌, ◌≤◌, ◌^◌, List, [], ◌∷◌, ◌++◌, length, take, drop, get_or, flat_map, nat_lt, Option, Some, None, Result, Ok, Err, All, inl, inr, append_assoc, length-append, length-drop, arith}
+use Rattle.std.proofs.Common.{◌≡◌, refl, sym, ◌∙◌, ap, subst, Bool, true, false, cond, not, ◌&&◌, ◌||◌, ◌==◌, ℕ, zero, suc, ◌+◌, ◌<◌, ◌≤◌, ◌^◌, List, [], ◌∷◌, ◌++◌, length, take, drop, nat_lt, Some, None, Result, Ok, Err, All, inl, inr, append_assoc, length-append, length-drop, arith}
 use Rattle.std.proofs.lemmas.Bool.{cases_lt, eqb-true, false_from_ne_true, le-ltb, ltb-false}
 use Rattle.std.proofs.lemmas.List.{get_or-drop, get_or-take, get_or_past, length-take-le, take-append-drop}
 use Rattle.std.proofs.lemmas.List.Elements.{All-cons, All-head, All-nil, All-tail}
@@ -7,7 +7,7 @@ use Rattle.std.proofs.lemmas.Nat.{be_bytes_4, from_be_bytes-to_be_bytes_4}
 use Rattle.std.proofs.Math.Seq.{drop-append_seam, take-append_seam}
 use Rattle.std.specs.Int.{w32, from_be_bytes, to_be_bytes}
 use Rattle.spool_file.specs.declared.reading.NotSpool.{NotSpool}
-use Rattle.setup_store.specs.Entries.{AreBytesOf, Entry, IsEntry, bad_byte, behind_first, behind_head, break_of, bytes_of, ends_at, entries_in, entries_within, entry_bytes, first_by, first_in, head_break, is_kept, is_kept_stream, with_first}
+use Rattle.setup_store.specs.Entries.{AreBytesOf, Entry, IsEntry, bad_byte, behind_first, break_of, bytes_of, ends_at, entries_in, entries_within, entry_bytes, first_by, first_in, head_break, is_kept, is_kept_stream, with_first}
 use Rattle.setup_store.specs.Laws.{AreBytes}
 
 -- ---- what stands in front

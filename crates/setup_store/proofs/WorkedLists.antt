@@ -1,5 +1,5 @@
 -- Kept lists worked by computing.
-use Rattle.std.proofs.Common.{◌≡◌, refl, sym, ◌∙◌, ap, Bool, true, false, not, nat_lt, ℕ, List, [], ◌∷◌, Option, Some, None}
+use Rattle.std.proofs.Common.{◌≡◌, refl, sym, ◌∙◌, ap, true, false, not, nat_lt, ℕ, List, [], ◌∷◌, Some, None}
 use Rattle.std.proofs.lemmas.List.{length-replicate}
 use Rattle.secs_items.specs.declared.item.Item.{Item, out-Item}
 use Rattle.secs_items.specs.declared.item.Item.TheOpen.{Item-F}
@@ -7,10 +7,9 @@ use Rattle.secs_items.specs.declared.item.Item.TheVariants as item
 use Rattle.secs_items.specs.declared.item.Item.TheVariants.{rolls-B, rolls-Bool, rolls-L, rolls-U1}
 use Rattle.secs_items.specs.declared.item.Item.TheViews.{out-roll-Item, roll-Item}
 use Rattle.secs_items.specs.Reading.{format_at, head_at, item_at, size_at}
-use Rattle.setup_store.specs.declared.change.Change.{Change}
 use Rattle.setup_store.specs.declared.change.Change.TheVariants as change
-use Rattle.setup_store.specs.Entries.{Entry, most_kept}
-use Rattle.setup_store.specs.Kept.{change_by, kept}
+use Rattle.setup_store.specs.Entries.{most_kept}
+use Rattle.setup_store.specs.Kept.{change_by}
 use Rattle.setup_store.specs.Worked.{BytesAreAsWorked, KeptListsAreAsWorked, ReportsAreAsWorked, SettingsAreAsWorked, alarm, alarms, constants, define, eleven, entry, events, link, linked, rule, ten}
 
 opened : (x : Item-F Item) (i : Item) → roll-Item x ≡ i → out-Item i ≡ x

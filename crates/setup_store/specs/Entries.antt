@@ -2,13 +2,12 @@
 use Rattle.std.specs.Prelude.{◌≡◌, ◌<◌, ◌+◌, ◌-◌, ◌^◌, ◌==◌, ◌&&◌, ◌||◌, not, ℕ, zero, suc, Bool, List, [], ◌∷◌, ◌++◌, length, take, drop, flat_map, nat_lt, slice_index, All, IsTrue, Option, Some, None, Result, Ok, Err, if◌then◌else◌}
 use Rattle.std.specs.Int.{w32, from_be_bytes, to_be_bytes}
 use Rattle.spool_file.specs.declared.reading.NotSpool.{NotSpool}
+use Rattle.trace_log.specs.Names.{KeptPrimary}
 use Rattle.setup_store.specs.declared.entry.EntryView.{EntryView}
 
--- a primary of the host that is kept; whether its reply was awaited isn't
-pub record Entry : Type 0 where
-  pub stream : ℕ
-  pub function : ℕ
-  pub body : List ℕ
+-- a primary of the host that is kept
+abbrev pub Entry : Type 0
+Entry = KeptPrimary
 
 -- what the program has of an entry
 abbrev pub entry_of : EntryView → Entry

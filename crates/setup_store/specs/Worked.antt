@@ -1,6 +1,5 @@
 -- Kept lists worked by hand.
-use Rattle.std.specs.Prelude.{◌≡◌, ℕ, true, false, List, [], ◌∷◌, ◌++◌, length, map, flat_map, fold, replicate, Some, None, Ok, Err}
-use Rattle.spool_file.specs.declared.reading.NotSpool.{NotSpool}
+use Rattle.std.specs.Prelude.{◌≡◌, ℕ, true, false, List, [], ◌∷◌, length, map, flat_map, fold, replicate, Some, None, Ok, Err}
 use Rattle.setup_store.specs.Entries.{Entry, bytes_of, entries_in, has_room}
 use Rattle.setup_store.specs.Kept.{kept}
 

@@ -40,8 +40,8 @@ pub(crate) fn is_kept_stream(stream: u8) -> bool
     matches!(stream, 2 | 5)
 }
 
-/// Whether this primary is kept.
-pub(crate) fn is_kept(stream: u8, function: u8) -> bool
+/// Whether a primary of this stream and function is kept: it is one of S2F15, S2F33, S2F35, S2F37, S2F43 and S5F3.
+pub fn is_kept(stream: u8, function: u8) -> bool
     ensures { result ≡ is_kept stream function }
 {
     matches!((stream, function), (2, 15 | 33 | 35 | 37 | 43) | (5, 3))

@@ -22,7 +22,8 @@ pub fn has_room(list: &[u8]) -> bool
 /// Where bytes break that are to be a list of entries: the first byte that no such list has there, or, where they end
 /// within an entry, their end without a byte. `None` exactly where they are a list of entries.
 pub fn list_break(list: &[u8]) -> Option<NotSpool>
-    ensures { result ≡ break_of (entries_in list.now) }
+    ensures breaks { result ≡ break_of (entries_in list.now) }
+    ensures within { IfSome result (λ e. e.at ≤ length list.now) }
 {
     let mut rest = list;
     'entries: while !rest.is_empty() {
@@ -49,6 +50,7 @@ fn first_of(total: usize, bytes: &[u8]) -> Result<(EntryView<'_>, &[u8]), NotSpo
     ensures ok { IfOk result (λ x. first_in total bytes.now ≡ Ok (entry_of x.0, x.1.now)) }
     ensures within { IfOk result (λ x. length x.0.body.now + length x.1.now < length bytes.now) }
     ensures err { IfErr result (λ e. first_in total bytes.now ≡ Err e) }
+    ensures place { IfErr result (λ e. e.at ≤ total) }
 {
     if let Some(found) = head_break(total, bytes) {
         return Err(found);
@@ -71,6 +73,7 @@ fn first_of(total: usize, bytes: &[u8]) -> Result<(EntryView<'_>, &[u8]), NotSpo
 fn head_break(total: usize, bytes: &[u8]) -> Option<NotSpool>
     requires { length bytes.now ≤ total }
     ensures place { result ≡ head_break total bytes.now }
+    ensures within { IfSome result (λ e. e.at ≤ total) }
     ensures whole { result ≡ None → 6 ≤ length bytes.now }
 {
     if bytes.is_empty() {
@@ -92,7 +95,8 @@ fn head_break(total: usize, bytes: &[u8]) -> Option<NotSpool>
 }
 
 fn ends_at(total: usize) -> NotSpool
-    ensures { result ≡ ends_at total }
+    ensures there { result ≡ ends_at total }
+    ensures place { result.at ≤ total }
 {
     NotSpool {
         at: total as u64,
@@ -103,7 +107,8 @@ fn ends_at(total: usize) -> NotSpool
 fn bad_byte(total: usize, bytes: &[u8], k: usize) -> NotSpool
     requires long { length bytes.now ≤ total }
     requires there { k < length bytes.now }
-    ensures { result ≡ bad_byte total bytes.now k }
+    ensures there { result ≡ bad_byte total bytes.now k }
+    ensures place { result.at ≤ total }
 {
     NotSpool {
         at: (total - bytes.len() + k) as u64,
