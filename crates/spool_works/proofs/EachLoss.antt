@@ -15,7 +15,7 @@ use Rattle.spool_slots.specs.Calls.{synced}
 use Rattle.spool_slots.specs.Files.{gates_shut, with_gates}
 use Rattle.spool_slots.specs.Losses.{file_left, gate_counts, gates_left}
 use Rattle.spool_works.specs.DiskWorks.{DiskWork, updates_at, standing_behind}
-use Rattle.spool_works.specs.DiskWorks.DiskWork.{Change, ReadOldest, Reserve}
+use Rattle.spool_works.specs.DiskWorks.DiskWork.{Change, Keep, ReadOldest, Reserve}
 use Rattle.spool_works.specs.WorkLosses.{calls_at}
 use Rattle.spool_works.proofs.LossCounts.{Each}
 
@@ -96,6 +96,7 @@ module _ (Good : SpoolFile → Type 0) where
     behind-good : (one : DiskWork) → IsGoodBar st.file → Good (standing_behind st one).file
         → AreGoodBehind st (updates_at st one)
     behind-good Reserve bar after = (after, tt)
+    behind-good (Keep bytes) bar after = (tt, (after, tt))
     behind-good (ReadOldest slots) bar after = (tt, tt)
     behind-good (Change (work.Put stream function body)) bar after =
         ((bar (gates_shut st.file.slots st.next (slots_for (length body)) st.file.gates), bar), (after, tt))

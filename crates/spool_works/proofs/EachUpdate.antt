@@ -7,7 +7,7 @@ use Rattle.gem_spool.specs.Works.{floor_above, purge_updates, standing_after}
 use Rattle.gem_spool.specs.declared.works.Work.TheVariants as work
 use Rattle.spool_file.specs.Slot.{Message}
 use Rattle.spool_works.specs.DiskWorks.{WorksAreUpdates}
-use Rattle.spool_works.specs.DiskWorks.DiskWork.{Change, ReadOldest, Reserve}
+use Rattle.spool_works.specs.DiskWorks.DiskWork.{Change, Keep, ReadOldest, Reserve}
 
 purge-behind : (st : Standing) (list : List Message) → st.file.list ≡ list
     → behind_updates st (purge_updates list st) ≡ standing_after st work.Purge
@@ -21,6 +21,7 @@ purge-behind st (message ∷ list) is = refl
 
 pub works-are-updates : WorksAreUpdates
 works-are-updates st Reserve = refl
+works-are-updates st (Keep bytes) = refl
 works-are-updates st (ReadOldest slots) = refl
 works-are-updates st (Change (work.Put stream function body)) = refl
 works-are-updates st (Change (work.DropOldest slots)) = refl

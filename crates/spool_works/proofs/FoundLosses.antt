@@ -13,11 +13,11 @@ use Rattle.trace_log.specs.Names.{Spooled}
 use Rattle.trace_log.specs.declared.names.Cause.{Cause}
 use Rattle.trace_log.specs.declared.names.Cause.TheVariants as cause
 use Rattle.spool_works.specs.DiskWorks.{DiskWork, standing_behind}
-use Rattle.spool_works.specs.DiskWorks.DiskWork.{Change, ReadOldest, Reserve}
+use Rattle.spool_works.specs.DiskWorks.DiskWork.{Change, Keep, ReadOldest, Reserve}
 use Rattle.spool_works.specs.Found.{found_in, spooled_of}
 use Rattle.spool_works.proofs.EachLoss.{each-work}
 use Rattle.spool_works.proofs.LossCounts.{Each}
-use Rattle.spool_works.specs.WorkLosses.{LossesAreFound, MayLeaveAt, PurgesAreWhole, calls_at, storing_at}
+use Rattle.spool_works.specs.WorkLosses.{LossesAreFound, MayLeaveAt, PurgesAreWhole, SetupsAreWhole, calls_at, storing_at}
 
 -- ---- lists
 
@@ -99,6 +99,7 @@ each-call st one leaving may =
     after : (one : DiskWork) → MayLeaveAt one leaving
         → Finds st.file.list (storing_at st.next one) leaving (standing_behind st one).file.list
     after Reserve may = finds-all st.file.list None leaving
+    after (Keep bytes) may = finds-all st.file.list None leaving
     after (ReadOldest slots) may = finds-all st.file.list None leaving
     after (Change (work.Put stream function body)) may =
         finds-more st.file.list (record { number = st.next; stream = stream; function = function; body = body }) leaving
@@ -124,3 +125,13 @@ purges-whole st left has choice =
     (calls_at st (Change work.Purge)) left
     (each-work (λ (file : SpoolFile). (file.list ≡ st.file.list) ⊎ (file.list ≡ [])) st (Change work.Purge) (inl refl)
     (λ gates. inl refl) (inr refl)) has choice
+
+-- and of the setup
+pub setups-whole : SetupsAreWhole
+setups-whole st one left has choice =
+    each-has
+    (λ (some : Left). (choice : CutChoice) → ((some choice).setup ≡ st.file.setup)
+    ⊎ ((some choice).setup ≡ (standing_behind st one).file.setup))
+    (calls_at st one) left
+    (each-work (λ (file : SpoolFile). (file.setup ≡ st.file.setup)
+    ⊎ (file.setup ≡ (standing_behind st one).file.setup)) st one (inl refl) (λ gates. inl refl) (inr refl)) has choice

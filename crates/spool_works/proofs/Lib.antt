@@ -6,7 +6,14 @@ pub mod CallPlaces
 pub mod Called
 pub mod Counted
 pub mod EachLoss
+pub mod EachFront
 mod EachUpdate
 pub mod FoundLosses
+pub mod HandingBack
+mod Joining
+pub mod KeepCalls
 pub mod LossCounts
+pub mod OwedLosses
+pub mod OwedWorks
 pub mod WorkedCalls
+mod WorkedKeeps

@@ -12,7 +12,7 @@ use Rattle.spool_file.specs.Logs.{written_by}
 use Rattle.spool_works.specs.declared.ended.Ended.{Ended}
 use Rattle.spool_works.specs.declared.ended.Ended.TheVariants as ended
 use Rattle.spool_works.specs.DiskWorks.{DiskWork, standing_behind, standings_behind, updates_at}
-use Rattle.spool_works.specs.DiskWorks.DiskWork.{Change, ReadOldest, Reserve}
+use Rattle.spool_works.specs.DiskWorks.DiskWork.{Change, Keep, ReadOldest, Reserve}
 
 -- ---- the calls of a work, in their order
 
@@ -59,6 +59,7 @@ AreFirstReads st (ReadOldest slots ∷ works) calls =
     (made : ℕ) × (made ≤ slots) × (calls ≡ disk_calls st (ReadOldest made))
 AreFirstReads st (Reserve ∷ works) calls = calls ≡ []
 AreFirstReads st (Change work ∷ works) calls = calls ≡ []
+AreFirstReads st (Keep bytes ∷ works) calls = calls ≡ []
 AreFirstReads st [] calls = calls ≡ []
 
 -- the calls of some first works were made and done, and perhaps first reads of the next one, and no others

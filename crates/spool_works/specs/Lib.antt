@@ -3,5 +3,8 @@ pub mod DiskCalls
 pub mod DiskWorks
 pub mod Found
 pub mod HandedBack
+pub mod KeptSetup
+pub mod Owed
 pub mod WorkLosses
 pub mod WorkedCalls
+pub mod WorkedKeeps

@@ -11,7 +11,7 @@ use Rattle.trace_log.specs.Names.{Spooled}
 use Rattle.trace_log.specs.declared.names.Cause.{Cause}
 use Rattle.trace_log.specs.declared.names.Cause.TheVariants as cause
 use Rattle.spool_works.specs.DiskCalls.{disk_calls}
-use Rattle.spool_works.specs.DiskWorks.{DiskWork, updates_at}
+use Rattle.spool_works.specs.DiskWorks.{DiskWork, standing_behind, updates_at}
 use Rattle.spool_works.specs.Found.{found_in}
 
 -- at each call of a work, in their order
@@ -32,6 +32,7 @@ storing_at next (DiskWork.Change (work.Put stream function body)) =
 storing_at next (DiskWork.Change (work.DropOldest slots)) = None
 storing_at next (DiskWork.Change work.Purge) = None
 storing_at next DiskWork.Reserve = None
+storing_at next (DiskWork.Keep bytes) = None
 storing_at next (DiskWork.ReadOldest slots) = None
 
 abbrev pub MayLeaveAt : DiskWork → Option Cause → Type 0
@@ -40,6 +41,7 @@ MayLeaveAt (DiskWork.Change (work.DropOldest slots)) leaving =
     (leaving ≡ Some cause.Confirmed) ⊎ (leaving ≡ Some cause.Overwritten)
 MayLeaveAt (DiskWork.Change work.Purge) leaving = leaving ≡ Some cause.Purged
 MayLeaveAt DiskWork.Reserve leaving = Unit {0}
+MayLeaveAt (DiskWork.Keep bytes) leaving = Unit {0}
 MayLeaveAt (DiskWork.ReadOldest slots) leaving = Unit {0}
 
 -- at whichever call of a work power is lost, and whatever becomes of the disk, what is left is what the law of the
@@ -55,3 +57,9 @@ abbrev pub PurgesAreWhole : Type 0
 PurgesAreWhole =
     (st : Standing) (left : Left) → Has (calls_at st (DiskWork.Change work.Purge)) left → (choice : CutChoice)
     → ((left choice).list ≡ st.file.list) ⊎ ((left choice).list ≡ [])
+
+-- of each work it is the setup that was kept, or the one that the work keeps
+abbrev pub SetupsAreWhole : Type 0
+SetupsAreWhole =
+    (st : Standing) (one : DiskWork) (left : Left) → Has (calls_at st one) left → (choice : CutChoice)
+    → ((left choice).setup ≡ st.file.setup) ⊎ ((left choice).setup ≡ (standing_behind st one).file.setup)

@@ -3,7 +3,11 @@
 #![tactic(auto)]
 
 mod ended;
+mod keeping;
 mod laws;
+mod owed;
 
 pub use ended::Ended;
-pub use laws::{losses_are_found, worked_calls, works_are_updates};
+pub use keeping::keep_setup;
+pub use laws::{losses_are_found, worked_calls, worked_keeps, works_are_updates};
+pub use owed::carry_owed;
