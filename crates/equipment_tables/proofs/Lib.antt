@@ -1,6 +1,6 @@
 pub mod Bodies
-mod ChangeFunctions
-mod CountedChanges
+pub mod ChangeFunctions
+pub mod CountedChanges
 mod KeptSetup
 mod Latest
 pub mod Lines
