@@ -1,3 +1,4 @@
 pub mod LossCalls
+pub mod SetupRuns
 pub mod SpoolRuns
 pub mod StepFiles

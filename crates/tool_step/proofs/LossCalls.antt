@@ -1,5 +1,5 @@
 -- How often power may be lost in a step, and what is noted by then: proofs, which stand here since an impl cites them.
-use Rattle.std.proofs.Common.{◌≡◌, ◌∙◌, refl, sym, ap, subst, ◌⊎◌, inl, inr, arith, ◌+◌, ℕ, List, [], ◌∷◌, ◌++◌, length, map}
+use Rattle.std.proofs.Common.{◌≡◌, ◌∙◌, refl, sym, ap, subst, ◌⊎◌, inl, inr, arith, ◌+◌, ℕ, List, [], ◌∷◌, ◌++◌, append_assoc, length, map}
 use Rattle.std.proofs.lemmas.List.Sums.{sum_by-append, sum_by-cons}
 use Rattle.std.specs.List.{sum_by}
 use Rattle.gem_spool.specs.Standing.{Standing}
@@ -7,10 +7,10 @@ use Rattle.message_end.specs.Core.{step_in}
 use Rattle.message_end.specs.Ends.{Loss}
 use Rattle.message_end.specs.Own.{Has}
 use Rattle.trace_log.specs.Log.{Happening}
-use Rattle.spool_works.specs.DiskWorks.{DiskWork, all_bytes, all_calls, behind_change, bytes_of, calls_of, fronts_of}
-use Rattle.spool_works.specs.DiskWorks.{standing_behind, up_to_change}
+use Rattle.spool_works.specs.DiskWorks.{DiskWork, all_bytes, all_calls, bytes_of, calls_of, front_at, fronts_of}
+use Rattle.spool_works.specs.DiskWorks.{lines_behind, lines_up_to, standing_behind, standings_behind}
+use Rattle.spool_works.proofs.EachFront.{all_behind, all_up_to}
 use Rattle.tool_step.specs.Disk.{standing_in, works_of}
-use Rattle.spool_works.specs.DiskWorks.DiskWork.{Change, ReadOldest, Reserve}
 use Rattle.tool_step.specs.Equipment.{EquipmentView, begun_step}
 use Rattle.tool_step.specs.Losses.{LossesAreCounted, loss_at, losses_of}
 use Rattle.spool_works.specs.WorkLosses.{calls_at, lost_calls}
@@ -62,37 +62,36 @@ module _ (s : EquipmentView) where
       (works : List DiskWork) (st : Standing) (before notes : List Happening)
       → written (losses_of s st before works notes) ≡ all_bytes st works
   losses-bytes [] st before notes = refl
-  losses-bytes (Reserve ∷ works) st before notes =
-      both-bytes st Reserve before (losses_of s (standing_behind st Reserve) before works notes)
-      (all_bytes (standing_behind st Reserve) works) (losses-bytes works (standing_behind st Reserve) before notes)
-  losses-bytes (Change one ∷ works) st before notes =
-      let front = before ++ up_to_change notes in
-      both-bytes st (Change one) front
-      (losses_of s (standing_behind st (Change one)) front works (behind_change notes))
-      (all_bytes (standing_behind st (Change one)) works)
-      (losses-bytes works (standing_behind st (Change one)) front (behind_change notes))
-  losses-bytes (ReadOldest slots ∷ works) st before notes =
-      both-bytes st (ReadOldest slots) (before ++ notes) (losses_of s (standing_behind st (ReadOldest slots)) before works notes)
-      (all_bytes (standing_behind st (ReadOldest slots)) works) (losses-bytes works (standing_behind st (ReadOldest slots)) before
-      notes)
+  losses-bytes (one ∷ works) st before notes =
+      both-bytes st one (front_at one before notes)
+      (losses_of s (standing_behind st one) (lines_up_to one before notes) works (lines_behind one notes))
+      (all_bytes (standing_behind st one) works)
+      (losses-bytes works (standing_behind st one) (lines_up_to one before notes) (lines_behind one notes))
 
   pub losses-count :
       (works : List DiskWork) (st : Standing) (before notes : List Happening)
       → length (losses_of s st before works notes) ≡ all_calls st works
   losses-count [] st before notes = refl
-  losses-count (Reserve ∷ works) st before notes =
-      both-count st Reserve before (losses_of s (standing_behind st Reserve) before works notes)
-      (all_calls (standing_behind st Reserve) works) (losses-count works (standing_behind st Reserve) before notes)
-  losses-count (Change one ∷ works) st before notes =
-      let front = before ++ up_to_change notes in
-      both-count st (Change one) front
-      (losses_of s (standing_behind st (Change one)) front works (behind_change notes))
-      (all_calls (standing_behind st (Change one)) works)
-      (losses-count works (standing_behind st (Change one)) front (behind_change notes))
-  losses-count (ReadOldest slots ∷ works) st before notes =
-      both-count st (ReadOldest slots) (before ++ notes) (losses_of s (standing_behind st (ReadOldest slots)) before works notes)
-      (all_calls (standing_behind st (ReadOldest slots)) works) (losses-count works (standing_behind st (ReadOldest slots)) before
-      notes)
+  losses-count (one ∷ works) st before notes =
+      both-count st one (front_at one before notes)
+      (losses_of s (standing_behind st one) (lines_up_to one before notes) works (lines_behind one notes))
+      (all_calls (standing_behind st one) works)
+      (losses-count works (standing_behind st one) (lines_up_to one before notes) (lines_behind one notes))
+
+  -- those of two lists of works, one behind the other
+  pub losses-both :
+      (xs ys : List DiskWork) (st : Standing) (before notes : List Happening)
+      → losses_of s st before (xs ++ ys) notes
+      ≡ losses_of s st before xs notes
+      ++ losses_of s (standings_behind st xs) (all_up_to xs before notes) ys (all_behind xs notes)
+  losses-both [] ys st before notes = refl
+  losses-both (x ∷ xs) ys st before notes =
+      ap (λ (rest : List (Loss EquipmentView)). map (loss_at s (front_at x before notes)) (lost_calls st x) ++ rest)
+      (losses-both xs ys (standing_behind st x) (lines_up_to x before notes) (lines_behind x notes))
+      ∙ sym
+      (append_assoc (map (loss_at s (front_at x before notes)) (lost_calls st x))
+      (losses_of s (standing_behind st x) (lines_up_to x before notes) xs (lines_behind x notes))
+      (losses_of s (standings_behind st (x ∷ xs)) (all_up_to (x ∷ xs) before notes) ys (all_behind (x ∷ xs) notes)))
 
   -- ---- what is noted by then
 
@@ -117,19 +116,11 @@ module _ (s : EquipmentView) where
       (works : List DiskWork) (st : Standing) (before notes : List Happening) (loss : Loss EquipmentView)
       → Has (losses_of s st before works notes) loss → Has (fronts_of before works notes) loss.front
   losses-fronts [] st before notes loss has = absurd has
-  losses-fronts (Reserve ∷ works) st before notes loss has =
-      first-or-later before (lost_calls st Reserve) (losses_of s (standing_behind st Reserve) before works notes)
-      (fronts_of before works notes) loss (losses-fronts works (standing_behind st Reserve) before notes loss) has
-  losses-fronts (Change one ∷ works) st before notes loss has =
-      let front = before ++ up_to_change notes in
-      first-or-later front (lost_calls st (Change one))
-      (losses_of s (standing_behind st (Change one)) front works (behind_change notes))
-      (fronts_of front works (behind_change notes)) loss
-      (losses-fronts works (standing_behind st (Change one)) front (behind_change notes) loss) has
-  losses-fronts (ReadOldest slots ∷ works) st before notes loss has =
-      first-or-later (before ++ notes) (lost_calls st (ReadOldest slots))
-      (losses_of s (standing_behind st (ReadOldest slots)) before works notes) (fronts_of before works notes) loss
-      (losses-fronts works (standing_behind st (ReadOldest slots)) before notes loss) has
+  losses-fronts (one ∷ works) st before notes loss has =
+      first-or-later (front_at one before notes) (lost_calls st one)
+      (losses_of s (standing_behind st one) (lines_up_to one before notes) works (lines_behind one notes))
+      (fronts_of (lines_up_to one before notes) works (lines_behind one notes)) loss
+      (losses-fronts works (standing_behind st one) (lines_up_to one before notes) (lines_behind one notes) loss) has
 
 -- ---- each loss of a step
 
@@ -137,13 +128,9 @@ module _ (s : EquipmentView) where
 abbrev pub AtEach :
     (List Happening → Left → Type 0) → Standing → List Happening → List DiskWork → List Happening → Type 0
 AtEach P st before [] notes = Unit {0}
-AtEach P st before (Reserve ∷ works) notes =
-    Each (P before) (calls_at st Reserve) × AtEach P (standing_behind st Reserve) before works notes
-AtEach P st before (Change one ∷ works) notes =
-    Each (P (before ++ up_to_change notes)) (calls_at st (Change one))
-    × AtEach P (standing_behind st (Change one)) (before ++ up_to_change notes) works (behind_change notes)
-AtEach P st before (ReadOldest slots ∷ works) notes =
-    Each (P (before ++ notes)) (calls_at st (ReadOldest slots)) × AtEach P (standing_behind st (ReadOldest slots)) before works notes
+AtEach P st before (one ∷ works) notes =
+    Each (P (front_at one before notes)) (calls_at st one)
+    × AtEach P (standing_behind st one) (lines_up_to one before notes) works (lines_behind one notes)
 
 -- a loss is at a call of which this holds
 pub record IsAtCall (P : List Happening → Left → Type 0) (s : EquipmentView) (loss : Loss EquipmentView) : Type 0 where
@@ -179,21 +166,11 @@ module _ (P : List Happening → Left → Type 0) (s : EquipmentView) where
       (works : List DiskWork) (st : Standing) (before notes : List Happening) (loss : Loss EquipmentView)
       → AtEach P st before works notes → Has (losses_of s st before works notes) loss → IsAtCall P s loss
   at-call [] st before notes loss each has = absurd has
-  at-call (Reserve ∷ works) st before notes loss each has =
-      one-or-later before (lost_calls st Reserve) (losses_of s (standing_behind st Reserve) before works notes) loss
-      (lost-each (P before) st Reserve each.0)
-      (at-call works (standing_behind st Reserve) before notes loss each.1) has
-  at-call (Change one ∷ works) st before notes loss each has =
-      let front = before ++ up_to_change notes in
-      one-or-later front (lost_calls st (Change one))
-      (losses_of s (standing_behind st (Change one)) front works (behind_change notes)) loss
-      (lost-each (P front) st (Change one) each.0)
-      (at-call works (standing_behind st (Change one)) front (behind_change notes) loss each.1) has
-  at-call (ReadOldest slots ∷ works) st before notes loss each has =
-      one-or-later (before ++ notes) (lost_calls st (ReadOldest slots))
-      (losses_of s (standing_behind st (ReadOldest slots)) before works notes) loss
-      (lost-each (P (before ++ notes)) st (ReadOldest slots) each.0)
-      (at-call works (standing_behind st (ReadOldest slots)) before notes loss each.1) has
+  at-call (one ∷ works) st before notes loss each has =
+      one-or-later (front_at one before notes) (lost_calls st one)
+      (losses_of s (standing_behind st one) (lines_up_to one before notes) works (lines_behind one notes)) loss
+      (lost-each (P (front_at one before notes)) st one each.0)
+      (at-call works (standing_behind st one) (lines_up_to one before notes) (lines_behind one notes) loss each.1) has
 
 pub losses-counted : LossesAreCounted
 losses-counted s input now = (

@@ -1,5 +1,6 @@
 -- What works and a step make of the file: a step changes it by its works alone, and no work changes its slots.
-use Rattle.std.proofs.Common.{◌≡◌, refl, sym, ap, subst, ◌∙◌, Bool, true, false, ℕ, List, [], ◌∷◌, Some, if◌then◌else◌}
+use Rattle.std.proofs.Common.{◌≡◌, refl, sym, ap, subst, ◌∙◌, Bool, true, false, ℕ, List, [], ◌∷◌, Option, Some, None, if◌then◌else◌}
+use Rattle.std.specs.Option.{option_map_or}
 use Rattle.gate_cell.specs.Cell.{Cell}
 use Rattle.gem_spool.specs.Standing.{Standing}
 use Rattle.gem_spool.specs.Works.{lists_after, standing_after, standings_after}
@@ -14,8 +15,10 @@ use Rattle.spool_slots.specs.Files.{with_mark_moved}
 use Rattle.trace_log.specs.declared.commands.ToolCommand.{ToolCommand}
 use Rattle.trace_log.specs.Log.{Happening}
 use Rattle.tool_step.specs.declared.kind.Kind.{Kind}
-use Rattle.tool_step.specs.Equipment.{EquipmentView, act, begun_step, ended_step, is_marked_out, needs_numbers, node_step, oldest_of, parts_done, reserved, settled, settled_file, settled_list, settled_step, settled_went, went_with_file}
+use Rattle.tool_step.specs.Equipment.{EquipmentView, act, begun_step, ended_step, is_marked_out, kept_step, needs_numbers, node_step, oldest_of, parts_done, reserved, settled, settled_file, settled_list, settled_step, settled_went, went_with_file}
+use Rattle.setup_store.specs.Copies.{with_kept}
 use Rattle.tool_step.specs.Own.{OwnView}
+use Rattle.tool_step.specs.Setup.{kept_file, to_keep}
 use Rattle.tool_step.specs.Step.{first_parts, last_parts}
 
 -- ---- works
@@ -64,11 +67,31 @@ parts-file s (Spent step) = refl
 
 -- what comes behind the works
 pub ended-file : (went : Went EquipmentView Happening) (now : ℕ)
-    → (step_in (and_then (settled_went went) (ended_step now))).next.file ≡ (settled (step_in went).next).file
+    → (step_in (and_then (settled_went went) (ended_step now))).next.file ≡ (step_in (settled_went went)).next.file
 ended-file (Goes step) now =
-    parts-file (settled step.next)
-    (after_parts Some (last_parts (oldest_of (settled step.next)) now) (node_step (settled_step step)))
+    let done = kept_step (settled_step step) in
+    parts-file done.next (after_parts Some (last_parts (oldest_of done.next) now) (node_step done))
 ended-file (Spent step) now = refl
+
+-- the setup that is kept behind them is the only thing that this changes
+pub kept-same :
+    {X : Type 0} (field : SpoolFile → X) (own : OwnView) (file : SpoolFile)
+    → ((bytes : List ℕ) (other : SpoolFile) → field (with_kept bytes other) ≡ field other)
+    → field (kept_file own file) ≡ field file
+kept-same field own file same = go (to_keep own)
+  where
+    go : (found : Option (List ℕ))
+        → field (option_map_or (λ (bytes : List ℕ). with_kept bytes file) found file) ≡ field file
+    go None = refl
+    go (Some bytes) = same bytes file
+
+pub works-same :
+    {X : Type 0} (field : SpoolFile → X) (went : Went EquipmentView Happening)
+    → ((bytes : List ℕ) (other : SpoolFile) → field (with_kept bytes other) ≡ field other)
+    → field (step_in (settled_went went)).next.file ≡ field (settled (step_in went).next).file
+works-same field (Goes step) same =
+    kept-same field (settled step.next).node.own (settled step.next).file same
+works-same field (Spent step) same = refl
 
 -- what comes before them moves its mark on, or leaves it as it is
 pub begun-file : (P : SpoolFile → Type 0) (s : EquipmentView) (input : Input ToolCommand) (now : ℕ) → P s.file
@@ -90,6 +113,7 @@ pub act-slots : (s : EquipmentView) (input : Input ToolCommand) (now : ℕ)
     → (step_in (act s input now)).next.file.slots ≡ s.file.slots
 act-slots s input now =
     ap (λ (file : SpoolFile). file.slots) (ended-file (begun_step s input now) now)
+    ∙ works-same (λ (file : SpoolFile). file.slots) (begun_step s input now) (λ bytes other. refl)
     ∙ settled-slots (step_in (begun_step s input now)).next.node.own.ledger (step_in (begun_step s input now)).next.file
     ∙ begun-file (λ (file : SpoolFile). file.slots ≡ s.file.slots) s input now refl refl
 
@@ -97,6 +121,7 @@ pub act-version : (s : EquipmentView) (input : Input ToolCommand) (now : ℕ)
     → (step_in (act s input now)).next.file.version ≡ s.file.version
 act-version s input now =
     ap (λ (file : SpoolFile). file.version) (ended-file (begun_step s input now) now)
+    ∙ works-same (λ (file : SpoolFile). file.version) (begun_step s input now) (λ bytes other. refl)
     ∙ settled-version (step_in (begun_step s input now)).next.node.own.ledger
     (step_in (begun_step s input now)).next.file
     ∙ begun-file (λ (file : SpoolFile). file.version ≡ s.file.version) s input now refl refl

@@ -1,5 +1,6 @@
 -- What a step asks of the disk, in its order, and what there is where the disk fails on the way.
 use Rattle.std.specs.Prelude.{ℕ, Bool, ◌&&◌, not, List, [], ◌∷◌, ◌++◌, is_some, map, if◌then◌else◌}
+use Rattle.std.specs.Option.{option_map_or}
 use Rattle.gem_spool.specs.declared.works.Work.{Work}
 use Rattle.gem_spool.specs.Standing.{Standing}
 use Rattle.trace_log.specs.declared.commands.ToolCommand.{ToolCommand}
@@ -13,8 +14,9 @@ use Rattle.spool_ledger.specs.Sizes.{oldest_of}
 use Rattle.spool_ledger.specs.Unloading.{next_number}
 use Rattle.tool_step.specs.Equipment.{EquipmentView, begun_step, is_marked_out, needs_numbers}
 use Rattle.tool_step.specs.Own.{OwnView}
+use Rattle.tool_step.specs.Setup.{to_keep}
 use Rattle.spool_works.specs.DiskWorks.{DiskWork, fronts_of, all_calls, all_bytes}
-use Rattle.spool_works.specs.DiskWorks.DiskWork.{Change, ReadOldest, Reserve}
+use Rattle.spool_works.specs.DiskWorks.DiskWork.{Change, Keep, ReadOldest, Reserve}
 
 -- no more are reserved where there are none of four bytes
 abbrev pub reserve_works : EquipmentView → List DiskWork
@@ -23,6 +25,11 @@ reserve_works s = if needs_numbers s && not (is_marked_out s.file.mark.value) th
 -- what the spool owes behind all that is due and given, also where the numbers are spent by then
 abbrev pub owed_in : Went EquipmentView Happening → List Work
 owed_in begun = (step_in begun).next.node.own.ledger.works
+
+-- the setup is kept, unless the numbers are spent: one primary is treated in a step, and its action comes last
+abbrev pub keep_works : Went EquipmentView Happening → List DiskWork
+keep_works (Goes step) = option_map_or (λ bytes. Keep bytes ∷ []) (to_keep step.next.node.own) []
+keep_works (Spent step) = []
 
 -- a message is taken up then
 abbrev pub takes_up : OwnView → Bool
@@ -34,7 +41,7 @@ read_works (Goes step) =
 read_works (Spent step) = []
 
 abbrev pub works_behind : Went EquipmentView Happening → List DiskWork
-works_behind begun = map Change (owed_in begun) ++ read_works begun
+works_behind begun = map Change (owed_in begun) ++ keep_works begun ++ read_works begun
 
 -- in the order in which the disk is asked for them (this profile)
 abbrev pub works_of : EquipmentView → Input ToolCommand → ℕ → List DiskWork

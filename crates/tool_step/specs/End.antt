@@ -8,6 +8,7 @@ use Rattle.tool_step.specs.Disk.{asks, stops}
 use Rattle.spool_works.specs.DiskWorks.{reserve_asks}
 use Rattle.tool_step.specs.Equipment.{EquipmentView, act, restarts}
 use Rattle.tool_step.specs.Losses.{losses}
+use Rattle.tool_step.specs.Setup.{loading}
 
 -- what makes a new file of so many slots: one call writes its head, one each a gate, 32 the area, and the last syncs
 abbrev pub making : ℕ → Asked
@@ -17,9 +18,10 @@ making slots = record { calls = slots + 34; bytes = slots + 528384 }
 abbrev pub taking_up : ℕ → Asked
 taking_up slots = record { calls = 2 * slots + look_back slots + 2; bytes = 0 }
 
--- a start asks the size of each message then, and reserves system bytes
+-- a start reads its setup then, asks the size of each message, and reserves system bytes
 abbrev pub starting : SpoolFile → Asked
-starting file = asked_both (record { calls = length file.list; bytes = 0 }) reserve_asks
+starting file =
+    asked_both (loading file) (asked_both (record { calls = length file.list; bytes = 0 }) reserve_asks)
 
 -- it puts into a full spool nothing that it must, so that no step of it ends early for want of room; and at a start the
 -- disk is asked before anything is noted. (The file of a world is of version 2 from its making on.)

@@ -1,5 +1,5 @@
 -- The equipment with its spool: a step as a whole, its starts, and the equipment as an end.
-use Rattle.std.specs.Prelude.{ℕ, Bool, false, ◌+◌, ◌^◌, nat_lt, List, [], ◌∷◌, map, slice_get, Option, Some, None, if◌then◌else◌}
+use Rattle.std.specs.Prelude.{ℕ, Bool, false, ◌+◌, ◌^◌, nat_lt, List, [], ◌∷◌, ◌++◌, map, slice_get, Option, Some, None, if◌then◌else◌}
 use Rattle.std.specs.Option.{option_map}
 use Rattle.gem_spool.specs.Works.{lists_after, standings_after}
 use Rattle.gem_states.specs.Comms.{comms_after}
@@ -9,7 +9,8 @@ use Rattle.spool_file.specs.Slot.{Message, width}
 use Rattle.spool_slots.specs.Files.{upgraded, with_mark_moved}
 use Rattle.trace_log.specs.declared.commands.ToolCommand.{ToolCommand}
 use Rattle.trace_log.specs.Log.{Happening}
-use Rattle.trace_log.specs.Log.Happening.{EquipmentStarted}
+use Rattle.setup_store.specs.Entries.{Entry}
+use Rattle.trace_log.specs.Log.Happening.{EquipmentStarted, Setup, StepEnded}
 use Rattle.trace_log.specs.Names.{Spooled}
 use Rattle.transact.specs.Numbers.{numbers_from}
 use Rattle.message_end.specs.Core.{EndView, Step, Went, and_then, at_first}
@@ -23,6 +24,7 @@ use Rattle.equipment_tables.specs.declared.plan.EquipmentPlan.{EquipmentPlan}
 use Rattle.equipment_tables.specs.Tables.{planned_tables}
 use Rattle.tool_step.specs.declared.kind.Kind.{Kind}
 use Rattle.tool_step.specs.Own.{OwnView, ToolPart, TracingView, with_ledger}
+use Rattle.tool_step.specs.Setup.{carried_lines, found_list, kept_file, set_up, setup_in}
 use Rattle.tool_step.specs.Step.{end_plan, first_parts, last_parts}
 use Rattle.spool_works.specs.Found.{spooled_of, first_in, found_in}
 
@@ -75,7 +77,7 @@ went_with_file s (Spent step) = Spent (file_step s step)
 abbrev pub parts_done : List ToolPart → Step EquipmentView Happening → Went EquipmentView Happening
 parts_done parts step = went_with_file step.next (after_parts Some parts (node_step step))
 
--- ---- what the spool owes is done
+-- ---- what the spool owes is done, and what is asked of an object outside
 
 abbrev pub settled_own : OwnView → OwnView
 settled_own own = with_ledger (carried_out own.ledger) own
@@ -97,9 +99,16 @@ settled s = record {
 abbrev pub settled_step : Step EquipmentView Happening → Step EquipmentView Happening
 settled_step step = record step { next = settled step.next }
 
--- also where the numbers are spent by then (this profile)
+-- the setup is kept behind that
+abbrev pub kept_view : EquipmentView → EquipmentView
+kept_view s = record s { file = kept_file s.node.own s.file }
+
+abbrev pub kept_step : Step EquipmentView Happening → Step EquipmentView Happening
+kept_step step = record step { next = kept_view step.next }
+
+-- what the spool owes also where the numbers are spent by then (this profile)
 abbrev pub settled_went : Went EquipmentView Happening → Went EquipmentView Happening
-settled_went (Goes step) = Goes (settled_step step)
+settled_went (Goes step) = Goes (kept_step (settled_step step))
 settled_went (Spent step) = Spent (settled_step step)
 
 -- ---- a step
@@ -124,33 +133,39 @@ act s input now = and_then (settled_went (begun_step s input now)) (ended_step n
 abbrev pub no_traces : TracingView
 no_traces = record { running = []; made = []; for_grant = [] }
 
--- with what the spool holds
-abbrev pub new_own : EquipmentPlan → LedgerView → OwnView
-new_own plan ledger = record {
+-- with what the spool holds, and with the setup that is found, which is carried out
+abbrev pub new_own : EquipmentPlan → Option (List Entry) → LedgerView → OwnView
+new_own plan setup ledger = record {
   plan = plan;
-  tables = planned_tables plan;
+  tables = set_up (planned_tables plan) (found_list setup);
+  setup = setup;
   comms = comms_after [];
   control = new_control plan.control;
   for_grant = [];
   reports = [];
   ledger = ledger;
   tried = None;
+  owed = None;
   tracing = no_traces;
   events = 0;
   has_begun = false;
 }
+
+-- what is noted of the setup that a start finds; and that it is carried out, as a step ends
+abbrev pub setup_lines : EquipmentPlan → Option (List Entry) → List Happening
+setup_lines plan setup = Setup setup ∷ (carried_lines (planned_tables plan) (found_list setup) ++ StepEnded ∷ [])
 
 -- over what a file stands for: it becomes one of version 2, and the system bytes from its mark on are reserved
 abbrev pub started_on : EquipmentPlan → SpoolFile → Step EquipmentView Happening
 started_on plan file = record {
   next = record {
     node = record {
-      own = new_own plan (new_ledger file.slots (first_in file) (map width file.list));
+      own = new_own plan (setup_in file) (new_ledger file.slots (first_in file) (map width file.list));
       core = new_end (end_plan plan) (numbers_from file.mark.value 4096);
     };
     file = with_mark_moved (upgraded file);
   };
-  notes = EquipmentStarted (found_in file.list) file.mark.value ∷ [];
+  notes = EquipmentStarted (found_in file.list) file.mark.value ∷ setup_lines plan (setup_in file);
   written = [];
 }
 

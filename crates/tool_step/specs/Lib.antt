@@ -13,6 +13,7 @@ pub mod Replies
 pub mod Reports
 pub mod Sampling
 pub mod Sent
+pub mod Setup
 pub mod Spooling
 pub mod States
 pub mod Step
@@ -20,5 +21,6 @@ pub mod Taking
 pub mod Tool
 pub mod WorkedLosses
 pub mod WorkedOwnS1F13
+pub mod WorkedSetup
 pub mod WorkedSpool
 pub mod WorkedTraces

@@ -8,7 +8,7 @@ use Rattle.message_end.specs.Ends.{Input, Loss}
 use Rattle.message_end.specs.Own.{Has}
 use Rattle.trace_log.specs.declared.commands.ToolCommand.{ToolCommand}
 use Rattle.trace_log.specs.Log.{Happening}
-use Rattle.spool_works.specs.DiskWorks.{DiskWork, behind_change, standing_behind, up_to_change}
+use Rattle.spool_works.specs.DiskWorks.{DiskWork, front_at, lines_behind, lines_up_to, standing_behind}
 use Rattle.tool_step.specs.Disk.{asks, standing_in, stops, works_of}
 use Rattle.tool_step.specs.Equipment.{EquipmentView, begun_step}
 use Rattle.gem_spool.specs.Updates.{Left}
@@ -26,16 +26,9 @@ loss_at s front lost =
 abbrev pub losses_of : EquipmentView → Standing → List Happening → List DiskWork → List Happening →
     List (Loss EquipmentView)
 losses_of s st before [] notes = []
-losses_of s st before (DiskWork.Reserve ∷ works) notes =
-    map (loss_at s before) (lost_calls st DiskWork.Reserve)
-    ++ losses_of s (standing_behind st DiskWork.Reserve) before works notes
-losses_of s st before (DiskWork.Change one ∷ works) notes =
-    let front = before ++ up_to_change notes in
-    map (loss_at s front) (lost_calls st (DiskWork.Change one))
-    ++ losses_of s (standing_behind st (DiskWork.Change one)) front works (behind_change notes)
-losses_of s st before (DiskWork.ReadOldest slots ∷ works) notes =
-    map (loss_at s (before ++ notes)) (lost_calls st (DiskWork.ReadOldest slots))
-    ++ losses_of s (standing_behind st (DiskWork.ReadOldest slots)) before works notes
+losses_of s st before (one ∷ works) notes =
+    map (loss_at s (front_at one before notes)) (lost_calls st one)
+    ++ losses_of s (standing_behind st one) (lines_up_to one before notes) works (lines_behind one notes)
 
 abbrev pub losses : EquipmentView → Input ToolCommand → ℕ → List (Loss EquipmentView)
 losses s input now =

@@ -1,5 +1,5 @@
 -- How the equipment treats a whole message of the host.
-use Rattle.std.specs.Prelude.{ℕ, Bool, true, not, ◌==◌, ◌&&◌, List, [], ◌∷◌, ◌++◌, flat_map, map, Option, Some, None, if◌then◌else◌}
+use Rattle.std.specs.Prelude.{ℕ, Bool, true, false, not, ◌==◌, ◌&&◌, List, [], ◌∷◌, ◌++◌, flat_map, map, Option, Some, None, if◌then◌else◌}
 use Rattle.block_codec.specs.declared.header.Header.{Header}
 use Rattle.gem_shapes.specs.declared.request.Request.{Request}
 use Rattle.gem_shapes.specs.declared.request.Request.TheVariants as request
@@ -14,6 +14,7 @@ use Rattle.gem_states.specs.declared.control.ControlOut.TheVariants.{Abort, Ack}
 use Rattle.gem_states.specs.Control.{control_step}
 use Rattle.message_flow.specs.declared.message.Message.{Message}
 use Rattle.message_flow.specs.Message.{is_primary}
+use Rattle.setup_store.specs.Entries.{Entry, bytes_of, has_room}
 use Rattle.trace_log.specs.Log.{Happening, Past}
 use Rattle.trace_log.specs.Names.{message_name}
 use Rattle.transact.specs.declared.begun.Begun.{Begun}
@@ -24,14 +25,16 @@ use Rattle.message_end.specs.Parts.{fixed_turn, led_turn}
 use Rattle.tool_step.specs.declared.kind.Kind.{Kind}
 use Rattle.tool_step.specs.declared.kind.Kind.TheVariants as kind
 use Rattle.equipment_tables.specs.Answers.{answer_of, established_of, lines_of}
-use Rattle.tool_step.specs.Own.{OwnView, ToolCommands, ToolDuty, ToolTurn, is_communicating, is_enabled_in, is_local, is_online, turn_of, with_control, with_tables}
+use Rattle.tool_step.specs.declared.owed.Owed.TheVariants.{Keep}
+use Rattle.tool_step.specs.Own.{OwnView, ToolCommands, ToolDuty, ToolTurn, is_communicating, is_enabled_in, is_local, is_online, owing, turn_of, untold, with_control, with_setup, with_tables}
 use Rattle.tool_step.specs.Replies.{secondary_turn}
 use Rattle.equipment_tables.specs.Requests.{request_of}
 use Rattle.tool_step.specs.Sampling.{trace_turn}
 use Rattle.tool_step.specs.Sent.{abort_duty, answer_duties, error_duty, text_of}
+use Rattle.tool_step.specs.Setup.{has_space_code, next_setup, no_space}
 use Rattle.tool_step.specs.Spooling.{purge_turn, transmit_turn}
 use Rattle.tool_step.specs.States.{comms_turn, control_commands}
-use Rattle.equipment_tables.specs.Tables.{tables_after}
+use Rattle.equipment_tables.specs.Tables.{asked_after, tables_after}
 
 -- ---- S1F13
 
@@ -107,11 +110,44 @@ request_turn request.PurgeSpool now message own = purge_turn message own
 request_turn (request.Trace trid dsper total group svids) now message own =
     trace_turn (record { trid = trid; dsper = dsper; total = total; group = group; svids = svids }) now message own
 
+-- ---- changes of the setup that are kept
+
+-- the action, and that the primary is kept with this list behind it. That is done behind the other works of the step,
+-- and the answer waits for it (this profile)
+abbrev pub keep_turn : List Entry → Request → Message → OwnView → ToolTurn
+keep_turn list request message own =
+    fixed_turn
+    (owing (Keep (untold message)) (with_setup list (with_tables (asked_after (Some request) own.tables) own)))
+    (Note (Happening.Keeping message) ∷ Note (Happening.Kept message) ∷ [])
+
+-- one for which there is no room is refused: S2F33 and S2F35 by their code for that, and any other by function 0
+abbrev pub unkept_duties : Bool → Message → OwnView → List ToolDuty
+unkept_duties true message own = answer_duties (text_of own (code_item no_space)) message
+unkept_duties false message own = abort_duty message ∷ []
+
+abbrev pub unkept_turn : Message → OwnView → ToolTurn
+unkept_turn message own = turn_of own (unkept_duties (has_space_code message) message own)
+
 -- a request that has come as far as its action counts when the equipment looks back (this profile)
+abbrev pub recorded_turn : Message → ToolTurn → ToolTurn
+recorded_turn message turn = led_turn (Note (Happening.Recorded (Past.Asked message))) turn
+
+-- so one that is refused for want of room doesn't count (this profile)
+abbrev pub kept_turn : Bool → List Entry → Request → Message → OwnView → ToolTurn
+kept_turn true list request message own = recorded_turn message (keep_turn list request message own)
+kept_turn false list request message own = unkept_turn message own
+
+-- by the list that is to be kept behind it, if one is
+abbrev pub heard_turn : Option (List Entry) → ℕ → Request → Message → OwnView → ToolTurn
+heard_turn None now request message own = recorded_turn message (request_turn request now message own)
+heard_turn (Some list) now request message own = kept_turn (has_room (bytes_of list)) list request message own
+
+abbrev pub requested_turn : ℕ → Request → Message → OwnView → ToolTurn
+requested_turn now request message own = heard_turn (next_setup request message own) now request message own
+
 abbrev pub read_turn : ℕ → Option Request → Header → Message → OwnView → ToolTurn
 read_turn now None header message own = error_turn 7 header own
-read_turn now (Some request) header message own =
-    led_turn (Note (Happening.Recorded (Past.Asked message))) (request_turn request now message own)
+read_turn now (Some request) header message own = requested_turn now request message own
 
 -- ---- the steps in their order
 

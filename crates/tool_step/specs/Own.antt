@@ -1,5 +1,5 @@
 -- What the equipment keeps beside the core of its end, and how a turn of it is put together.
-use Rattle.std.specs.Prelude.{ℕ, Bool, true, false, ◌==◌, List, [], ◌∷◌, ◌++◌, Option, Some}
+use Rattle.std.specs.Prelude.{ℕ, Bool, true, false, ◌==◌, List, [], ◌∷◌, ◌++◌, Option, Some, None}
 use Rattle.std.specs.List.{find, position_or_len, remove}
 use Rattle.std.specs.Option.{option_map}
 use Rattle.gem_states.specs.Comms.{CommsView}
@@ -9,7 +9,9 @@ use Rattle.gem_states.specs.declared.comms.CommsState.TheVariants.{Communicating
 use Rattle.gem_states.specs.declared.control.ControlState.{ControlState}
 use Rattle.gem_states.specs.declared.control.ControlState.TheVariants.{Local, Remote}
 use Rattle.gem_trace.specs.Traces.{Running}
+use Rattle.message_flow.specs.declared.message.Message.{Message}
 use Rattle.secs_items.specs.declared.item.Item.{Item}
+use Rattle.setup_store.specs.Entries.{Entry}
 use Rattle.message_end.specs.Core.{Command}
 use Rattle.message_end.specs.Duties.{Duty}
 use Rattle.message_end.specs.Parts.{Part, Turn}
@@ -18,6 +20,7 @@ use Rattle.tool_step.specs.Live.{ReportView}
 use Rattle.spool_ledger.specs.Ledger.{LedgerView}
 use Rattle.trace_log.specs.Names.{Spooled}
 use Rattle.tool_step.specs.declared.kind.Kind.{Kind}
+use Rattle.tool_step.specs.declared.owed.Owed.{Owed}
 use Rattle.equipment_tables.specs.declared.plan.EquipmentPlan.{EquipmentPlan}
 use Rattle.equipment_tables.specs.Tables.{TablesState}
 
@@ -28,18 +31,22 @@ pub record TracingView : Type 0 where
   pub made : List Item
   pub for_grant : List GrantView
 
--- the plan; the tables; the two state models; the S6F11 that wait for S6F6, in the order in which they were made; the
--- reports that were sent and aren't answered yet; what becomes of the spool; the system bytes with which a message of
--- it was tried last, in this start; the traces; the DATAID of the next event; and whether its first step is over
+-- the plan; the tables; the setup that is kept, the oldest first, None where the file has no room for any; the two
+-- state models; the S6F11 that wait for S6F6, in the order in which they were made; the reports that were sent and
+-- aren't answered yet; what becomes of the spool; the system bytes with which a message of it was tried last, in this
+-- start; what this step asks of an object outside; the traces; the DATAID of the next event; and whether its first step
+-- is over
 pub record OwnView : Type 0 where
   pub plan : EquipmentPlan
   pub tables : TablesState
+  pub setup : Option (List Entry)
   pub comms : CommsView
   pub control : ControlView
   pub for_grant : List GrantView
   pub reports : List ReportView
   pub ledger : LedgerView
   pub tried : Option ℕ
+  pub owed : Option Owed
   pub tracing : TracingView
   pub events : ℕ
   pub has_begun : Bool
@@ -89,6 +96,20 @@ is_local own = is_local_in own.control.state
 
 abbrev pub with_tables : TablesState → OwnView → OwnView
 with_tables tables own = record own { tables = tables }
+
+abbrev pub with_setup : List Entry → OwnView → OwnView
+with_setup list own = record own { setup = Some list }
+
+-- this is asked of an object outside; and nothing is
+abbrev pub owing : Owed → OwnView → OwnView
+owing what own = record own { owed = Some what }
+
+abbrev pub unowed : OwnView → OwnView
+unowed own = record own { owed = None }
+
+-- a primary without its text, which still tells who is to be answered
+abbrev pub untold : Message → Message
+untold primary = record primary { body = [] }
 
 abbrev pub with_comms : CommsView → OwnView → OwnView
 with_comms comms own = record own { comms = comms }

@@ -19,10 +19,13 @@ use Rattle.message_end.specs.Plan.{EndPlan}
 use Rattle.equipment_tables.specs.declared.plan.EquipmentPlan.{EquipmentPlan}
 use Rattle.tool_step.specs.declared.kind.Kind.{Kind}
 use Rattle.tool_step.specs.Messages.{message_turn}
-use Rattle.tool_step.specs.Own.{OwnView, ToolPart, ToolTurn, quiet_turn, turn_of}
+use Rattle.tool_step.specs.declared.owed.Owed.{Owed}
+use Rattle.tool_step.specs.declared.owed.Owed.TheVariants.{Keep}
+use Rattle.tool_step.specs.Own.{OwnView, ToolPart, ToolTurn, quiet_turn, turn_of, unowed}
 use Rattle.tool_step.specs.Replies.{block_timer, given_up_turn, reply_timer}
 use Rattle.tool_step.specs.Sampling.{sample_parts}
-use Rattle.tool_step.specs.Sent.{error_duty}
+use Rattle.tool_step.specs.Sent.{answer_duties, error_duty, text_of}
+use Rattle.tool_step.specs.Setup.{accepted_item}
 use Rattle.tool_step.specs.Spooling.{end_of_spooling, unload_part}
 use Rattle.tool_step.specs.States.{comms_turn, end_of_talk}
 use Rattle.tool_step.specs.Tool.{told_turn}
@@ -104,10 +107,18 @@ abbrev pub first_parts : Input ToolCommand → ℕ → List ToolPart
 first_parts input now = beginning now ∷ line_timer now
     ∷ ((late_parts now ++ delay_timer now ∷ sample_parts now) ++ input_part input now ∷ [])
 
--- an unload goes on with the oldest message that the spool has by then, spooling ends, it is the line's turn, and the
--- step comes to its end
+-- what was asked of an object outside is done by then, and the primary that asked for it is answered (this profile)
+abbrev pub owed_turn : Option Owed → OwnView → ToolTurn
+owed_turn None own = quiet_turn own
+owed_turn (Some (Keep primary)) own = turn_of own (answer_duties (text_of own (accepted_item primary)) primary)
+
+abbrev pub answering : ToolPart
+answering own e = owed_turn own.owed (unowed own)
+
+-- what waits for the works is answered, an unload goes on with the oldest message that the spool has by then, spooling
+-- ends, it is the line's turn, and the step comes to its end
 abbrev pub last_parts : Option Spooled → ℕ → List ToolPart
-last_parts oldest now = unload_part oldest ∷ end_of_spooling ∷ offer now ∷ closes ∷ []
+last_parts oldest now = answering ∷ unload_part oldest ∷ end_of_spooling ∷ offer now ∷ closes ∷ []
 
 -- ---- the equipment as an end
 

@@ -4,6 +4,7 @@ ghost use Rattle.tool_step.specs.CallsCounted.{CallsAreCounted};
 ghost use Rattle.tool_step.specs.Losses.{LossesAreCounted};
 ghost use Rattle.tool_step.specs.WorkedLosses.{LosesAtCalls};
 ghost use Rattle.tool_step.specs.WorkedOwnS1F13.{EndOwnS1F13};
+ghost use Rattle.tool_step.specs.WorkedSetup.{IsKeptSo, IsNotKept, IsSetUpSo};
 ghost use Rattle.tool_step.specs.WorkedSpool.{FullSpools, LosesInOrder, PutsTheLast, SpoolingBegins, UnloadsInOrder};
 ghost use Rattle.tool_step.specs.WorkedTraces.{TraceDataGoes, TracesAreWorked};
 
@@ -44,4 +45,12 @@ pub fn worked_losses()
 /// Examples of the equipment's own S1F13, open before a report, behind one, and twice, as that of the host comes.
 pub fn worked_own_s1f13()
     ensures { EndOwnS1F13 }
+{}
+
+/// Examples of a setup: S2F33 is kept and answered behind that, or refused, or answered at once where the file has no
+/// area; several of them are kept; and a start carries out what was kept, and reports by it.
+pub fn worked_setups()
+    ensures kept { IsKeptSo }
+    ensures refused { IsNotKept }
+    ensures starts { IsSetUpSo }
 {}
