@@ -53,15 +53,19 @@ use Rattle.spool_ledger.specs.Unloading.{after_next, confirmed, fresh, next_numb
 use Rattle.tool_step.specs.declared.kind.Kind.{Kind}
 use Rattle.tool_step.specs.declared.kind.Kind.TheVariants as kind
 use Rattle.tool_step.specs.Codes.{is_accepted_in, is_granted_in}
-use Rattle.tool_step.specs.Messages.{answer_turn, control_answer_duties, control_request_turn, dropped_turn, error_turn, established_duties, established_turn, is_establish_request, is_online_request, known_turn, message_turn, offline_turn, own_s1f13_duty, primary_turn, read_turn, request_turn, stray_turn}
-use Rattle.tool_step.specs.Own.{OwnView, ToolDuty, event_report, is_communicating, is_enabled_in, is_local, is_online, quiet_turn, turn_before, turn_of, waiting_report, waiting_data, with_control, with_ledger, with_tables, with_tried, without_grant, without_waiting_data}
+use Rattle.tool_step.specs.Messages.{answer_turn, control_answer_duties, control_request_turn, dropped_turn, error_turn, established_duties, established_turn, is_establish_request, heard_turn, is_online_request, keep_turn, kept_turn, known_turn, message_turn, offline_turn, own_s1f13_duty, primary_turn, read_turn, request_turn, stray_turn, unkept_duties, unkept_turn}
+use Rattle.setup_store.specs.Entries.{Entry, bytes_of, has_room}
+use Rattle.tool_step.specs.declared.owed.Owed.{Owed}
+use Rattle.tool_step.specs.declared.owed.Owed.TheVariants.{Keep}
+use Rattle.tool_step.specs.Setup.{accepted_item, has_space_code, next_setup, no_space}
+use Rattle.tool_step.specs.Own.{OwnView, ToolDuty, event_report, is_communicating, is_enabled_in, is_local, is_online, quiet_turn, turn_before, turn_of, unowed, waiting_report, waiting_data, with_control, with_ledger, with_tables, with_tried, without_grant, without_waiting_data}
 use Rattle.tool_law.specs.Putting.{alarm_puts, block_timer_puts, changed_puts, character_puts, command_puts, dropped_puts, enabled_puts, event_puts, flow_puts, given_up_puts, lacks_number, line_timer_puts, loss_puts, matched_puts, message_puts, puts_none, reply_puts, reply_timer_puts, timeout_puts, took_puts}
 use Rattle.tool_step.specs.Replies.{block_timer, denied_turn, given_up_by_t4, given_up_turn, granted_turn, loss_turn, matched_turn, reply_timer, reply_turn, secondary_turn, timeout_turn}
 use Rattle.tool_step.specs.Sampling.{granted_trace_turn, tiaack_code, tiaack_in, trace_turn, denied_data_turn}
 use Rattle.tool_step.specs.Sent as sent
 use Rattle.tool_step.specs.Spooling.{booked_turn, dataid_in, end_of_spooling, grant_given_turn, inquiry_turn, let_go_turn, lines_commands, needs_grant, purge_turn, rsda_duties, sent_turn, stopped_turn, taking_turn, transmit_turn, tried_turn, unload_part, unload_request, unloaded_own, unloading_turn, waiting_text}
 use Rattle.tool_step.specs.States as states
-use Rattle.tool_step.specs.Step.{beginning, begun, character, flow_turn, is_spent, line_timer, long_turn, offer, took_turn}
+use Rattle.tool_step.specs.Step.{answering, beginning, begun, character, flow_turn, is_spent, line_timer, long_turn, offer, owed_turn, took_turn}
 use Rattle.tool_step.specs.Tool.{alarm_line, alarm_report_turn, alarm_turn, attempted_turn, command_turn, enabled_turn, known_event_turn, online_turn, set_turn, told_turn, with_event}
 use Rattle.tool_law.proofs.CommandWalks.{Does, abort-are, answers-are, are-both, control-noted, own-requests-are}
 use Rattle.tool_law.proofs.Drawing.{AreFree, AreFreeDuties, IsFree, Needs, Spends, free-need, free-spend, halt-spend, needs-as, needs-behind, needs-both, needs-more, needs-none, needs-one, or-false, primary-spend, draw-spend}
@@ -285,7 +289,31 @@ request-need (request.Trace trid dsper total group svids) now message own =
 read-need : (now : ℕ) (asks : Option Request) (header : Header) (message : Message) (own : OwnView)
     → Needs 1 false (read_turn now asks header message own).duties
 read-need now None header message own = errors-need 7 header own
-read-need now (Some asks) header message own = led-need 1 false _ _ (tt, tt) (request-need asks now message own)
+read-need now (Some asks) header message own = heard (next_setup asks message own)
+  where
+    unkept : (coded : Bool) → AreFreeDuties (unkept_duties coded message own)
+    unkept true = answers-are common-free (sent.text_of own (code_item no_space)) message (λ body. tt)
+    unkept false = abort-are common-free message
+
+    by_room : (list : List Entry) (room : Bool) → Needs 1 false (kept_turn room list asks message own).duties
+    by_room list true =
+        led-need 1 false _ _ (tt, tt)
+        (free-one (keep_turn list asks message own).duties ((λ e. (tt, (tt, tt))), tt))
+    by_room list false = free-one (unkept_turn message own).duties (unkept (has_space_code message))
+
+    heard : (list : Option (List Entry)) → Needs 1 false (heard_turn list now asks message own).duties
+    heard None = led-need 1 false _ _ (tt, tt) (request-need asks now message own)
+    heard (Some list) = by_room list (has_room (bytes_of list))
+
+-- what waits for the works is answered
+pub answering-need : (own : OwnView) (e : EndView Kind) → Needs 0 false (answering own e).duties
+answering-need own e = go own.owed
+  where
+    go : (owed : Option Owed) → Needs 0 false (owed_turn owed (unowed own)).duties
+    go None = needs-none 0
+    go (Some (Keep primary)) =
+        free-need (owed_turn (Some (Keep primary)) (unowed own)).duties
+        (answers-are common-free (sent.text_of (unowed own) (accepted_item primary)) primary (λ body. tt))
 
 known-need : (now : ℕ) (header : Header) (message : Message) (own : OwnView)
     → Needs 1 false (known_turn now header message own).duties

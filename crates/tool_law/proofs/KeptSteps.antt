@@ -21,12 +21,15 @@ use Rattle.message_end.specs.History.{noted_in, written_in}
 use Rattle.equipment_tables.specs.declared.plan.EquipmentPlan.{EquipmentPlan}
 use Rattle.equipment_tables.specs.Plan.{EquipmentPlanFits}
 use Rattle.tool_law.proofs.SpoolSound.{carried-good, settled-good}
-use Rattle.tool_step.specs.Equipment.{EquipmentView, act, begun_step, ended_step, is_marked_out, needs_numbers, parts_done, reserved, settled_step, settled_went}
-use Rattle.tool_step.proofs.StepFiles.{settled-mark}
+use Rattle.tool_step.specs.Equipment.{EquipmentView, act, begun_step, ended_step, is_marked_out, kept_step, needs_numbers, parts_done, reserved, settled_step, settled_went}
+use Rattle.spool_file.specs.File.{SpoolFile}
+use Rattle.tool_step.proofs.StepFiles.{kept-same, settled-mark}
+use Rattle.tool_law.specs.Sound.{AllCanBeSent}
 use Rattle.tool_law.specs.Laws.{DidOf}
 use Rattle.tool_step.specs.Step.{end_plan, first_parts}
 use Rattle.spool_ledger.specs.Ledger.{Numbered}
 use Rattle.spool_ledger.specs.Ledger.{carried_out}
+use Rattle.tool_law.proofs.Areas.{first-area, kept-area, settled-area}
 use Rattle.tool_law.proofs.TriedDoings.{AreNoTries, GiveNone, GoesTried, done-notes, quiet-done}
 use Rattle.spool_law.specs.Tries.{tries_in}
 use Rattle.tool_law.proofs.MildCommands.{marks-on}
@@ -57,6 +60,24 @@ module _ (plan : EquipmentPlan) (base : ℕ) (fits : EquipmentPlanFits plan) whe
     };
     list = settled-good step.next.node.own.ledger step.next.file at.node.at.held.ledger at.list;
     mark = settled-mark step.next.node.own.ledger step.next.file ∙ at.mark;
+    area = settled-area step.next.node.own step.next.node.own.ledger step.next.file at.area;
+  }
+
+  -- and the setup is kept
+  kept-at :
+      (slots : ℕ) (stood : Numbered) (doings : List Doing) (now limit : ℕ) (input : Input ToolCommand)
+      (Called : List LineCall → Type 0) (step : Step EquipmentView Happening)
+      → FileAt plan base fits slots stood doings now limit input Called step
+      → FileAt plan base fits slots stood doings now limit input Called (kept_step step)
+  kept-at slots stood doings now limit input Called step at = record {
+    node = at.node;
+    list = subst AllCanBeSent
+        (sym (kept-same (λ (file : SpoolFile). file.list) step.next.node.own step.next.file (λ bytes other. refl)))
+        at.list;
+    mark =
+        kept-same (λ (file : SpoolFile). file.mark.value) step.next.node.own step.next.file (λ bytes other. refl)
+        ∙ at.mark;
+    area = kept-area step.next.node.own step.next.file at.area;
   }
 
   -- the whole step, from what was begun
@@ -68,9 +89,11 @@ module _ (plan : EquipmentPlan) (base : ℕ) (fits : EquipmentPlanFits plan) whe
       → DoesStep (end_plan plan) (DidOf plan) base doings input now (and_then (settled_went went) (ended_step now))
   act-does slots stood doings now limit input (Goes step) at =
       file-steps plan base fits slots (carried_out step.next.node.own.ledger).stood doings now limit input
-      (ended_step now (settled_step step))
+      (ended_step now (kept_step (settled_step step)))
       (ended-at plan base fits slots (carried_out step.next.node.own.ledger).stood doings now limit input
-      (settled_step step) (settled-at slots stood doings now limit input (AreOfStep input now) step at))
+      (kept_step (settled_step step))
+      (kept-at slots (carried_out step.next.node.own.ledger).stood doings now limit input (AreOfStep input now)
+      (settled_step step) (settled-at slots stood doings now limit input (AreOfStep input now) step at)))
   act-does slots stood doings now limit input (Spent step) at =
       file-does plan base fits slots (carried_out step.next.node.own.ledger).stood doings now limit input
       (AreBegunOf input now) (settled_step step)
@@ -206,20 +229,21 @@ module _ (plan : EquipmentPlan) (base : ℕ) (fits : EquipmentPlanFits plan) whe
               (AreBegunOf input now) (at_first s.node) (begun-none input now) (begins-at doings now input s did);
           list = did.sound.list;
           mark = sym did.sound.mark;
+          area = did.sound.area;
         },
       )
       go true false is =
           let end = (reserved s).node.core.numbers.end in (
             end,
             parts-at plan base fits slots stood doings now end input (first_parts input now) (at_first (reserved s))
-                did.sound.list (more is)
+                did.sound.list (more is) (first-area input now) did.sound.area
                 (first-at plan base fits slots stood doings now end input (tries_in doings)
                 (at_first (reserved s).node) may (more-at doings now input s did)),
           )
       go false spent is = (
         limit,
         parts-at plan base fits slots stood doings now limit input (first_parts input now) (at_first s)
-            did.sound.list (sym did.sound.mark)
+            did.sound.list (sym did.sound.mark) (first-area input now) did.sound.area
             (first-at plan base fits slots stood doings now limit input (tries_in doings) (at_first s.node) may
             (begins-at doings now input s did)),
       )

@@ -1,57 +1,56 @@
 -- That the equipment keeps the law of an end.
-use Rattle.std.proofs.Common.{append_assoc, ◌⊎◌, inl, inr, ◌≡◌, ◌≢◌, ◌+◌, refl, sym, ap, subst, ◌∙◌, arith, Bool, true, false, not, ℕ, ◌≤◌, ◌==◌, List, [], ◌∷◌, ◌++◌, replicate, Option, Some, None, if◌then◌else◌, zero, suc}
+use Rattle.std.proofs.Common.{◌≡◌, ◌≢◌, refl, sym, ap, subst, ◌∙◌, arith, Bool, true, false, ℕ, ◌≤◌, List, [], ◌∷◌, ◌++◌, replicate, Option, Some, None, if◌then◌else◌, zero, suc}
 use Rattle.std.specs.Option.{option_map}
 use Rattle.std.proofs.Math.Nat.{le_trans}
 use Rattle.std.specs.Prelude.{IfSome, map, slice_get}
 use Rattle.std.proofs.lemmas.Bool.Decides.{nat_tests}
 use Rattle.std.proofs.lemmas.List.Elements.{All-nil, All-head}
 use Rattle.disk_base.specs.declared.cut.CutChoice.{CutChoice}
-use Rattle.gem_states.specs.Comms.{asks}
 use Rattle.gem_states.specs.declared.comms.CommsIn.TheVariants as comms_in
 use Rattle.trace_log.specs.Commands.{ToolCommandFits}
-use Rattle.trace_log.specs.Log.{Happening, is_before_change}
+use Rattle.trace_log.specs.Log.{Happening}
 use Rattle.trace_log.specs.Names.{Spooled}
 use Rattle.trace_log.specs.declared.commands.ToolCommand.{ToolCommand}
-use Rattle.trace_log.specs.declared.names.CommsName.TheVariants as comms_name
-use Rattle.transact.specs.Numbers.{IsNumbers, next_number, numbers_from}
+use Rattle.transact.specs.Numbers.{IsNumbers, numbers_from}
 use Rattle.message_end.specs.Calls.{dropped_now, failed_at, took_at}
-use Rattle.message_end.specs.Core.{EndView, IsText, Step, Went, and_then, at_first, carried, draws, noted, sends, step_in}
+use Rattle.message_end.specs.Core.{EndView, IsText, Step, Went, and_then, at_first, step_in}
 use Rattle.message_end.specs.Core.Went.{Goes, Spent}
-use Rattle.message_end.specs.Core.Command.{DropDue, Note, Take, Tick}
+use Rattle.message_end.specs.Core.Command.{DropDue, Take, Tick}
 use Rattle.message_end.specs.Doings.{Doing, own_of}
 use Rattle.message_end.specs.Duties.{all_done}
 use Rattle.message_end.specs.Ends.{HasRestarted, HasStarted, Input, IsFront, KeepsLaw, Loss, LosesAt, MayTake, OnStart}
 use Rattle.message_end.specs.Ends.Input.{Char, Command as Told, Time}
 use Rattle.message_end.specs.InStep.{NoneEnds}
 use Rattle.message_end.specs.Starts.IsStartOf.{of_equipment}
-use Rattle.message_end.specs.Parts.{Node, after_parts, after_turn, core_after, core_step, fixed_turn, went_with, with_own}
+use Rattle.message_end.specs.Parts.{Node, after_parts, core_after, core_step, went_with, with_own}
 use Rattle.message_end.proofs.InSteps.{none-front}
 use Rattle.message_end.proofs.Lower.{lower}
 use Rattle.message_end.proofs.NodeLawful.{begins-new, history-says}
 use Rattle.message_end.proofs.Growing.{front-both, front-more, front-same, parts-grow}
 use Rattle.message_end.specs.Own.{Has}
-use Rattle.equipment_tables.specs.declared.answers.Answer.{Answer as Text}
-use Rattle.equipment_tables.specs.declared.answers.Answer.TheVariants as text
 use Rattle.tool_step.specs.Grants.{GrantView}
 use Rattle.tool_step.specs.declared.kind.Kind.{Kind}
 use Rattle.equipment_tables.specs.declared.plan.EquipmentPlan.{EquipmentPlan}
-use Rattle.equipment_tables.specs.Answers.{identity_of}
-use Rattle.tool_step.specs.Own.{OwnView, ToolPart, ToolTurn, quiet_turn, with_comms}
+use Rattle.tool_step.specs.declared.owed.Owed.{Owed}
+use Rattle.tool_step.specs.declared.owed.Owed.TheVariants.{Keep}
+use Rattle.tool_step.specs.Own.{OwnView, ToolPart, unowed}
+use Rattle.tool_step.specs.Setup.{setup_in}
+use Rattle.tool_step.proofs.StepFiles.{kept-same}
 use Rattle.equipment_tables.specs.Plan.{EquipmentPlanFits}
 use Rattle.tool_step.specs.Replies.{block_timer, reply_timer}
 use Rattle.tool_step.specs.Sampling.{made_part, sample_parts}
-use Rattle.tool_step.specs.Sent as sent
 use Rattle.tool_law.specs.Sound.{AllCanBeSent, CanBeSent, IsHeld, IsSound}
 use Rattle.tool_step.specs.Spooling.{end_of_spooling, taking_turn}
 use Rattle.tool_law.proofs.SpoolSound.{carried-good, new-good, settled-good}
 use Rattle.spool_works.specs.DiskWorks.{DiskWork, behind_change, fronts_of, up_to_change}
+use Rattle.spool_works.proofs.EachFront.{each-front, up-to}
 use Rattle.tool_step.specs.Disk.{stops, works_of}
 use Rattle.tool_step.specs.End.{machine}
 use Rattle.tool_step.specs.Losses.{losses}
-use Rattle.tool_step.specs.Equipment.{unstarted, EquipmentView, act, begun_step, ended_step, is_marked_out, needs_numbers, new_own, node_step, oldest_of, parts_done, reserved, restarts, settled, settled_step, settled_went, started_on, starts, went_with_file}
+use Rattle.tool_step.specs.Equipment.{unstarted, EquipmentView, act, begun_step, ended_step, is_marked_out, needs_numbers, kept_step, kept_view, new_own, node_step, oldest_of, parts_done, reserved, restarts, settled, settled_step, settled_went, started_on, starts, went_with_file}
 use Rattle.spool_works.specs.Found.{first_in, found_in, spooled_of}
 use Rattle.tool_law.specs.Laws.{DidOf}
-use Rattle.tool_step.specs.Step.{begun, delay_timer, end_plan, first_parts, input_part, last_parts, late_parts, line_timer}
+use Rattle.tool_step.specs.Step.{answering, delay_timer, end_plan, first_parts, input_part, last_parts, late_parts, owed_turn}
 use Rattle.spool_ledger.specs.Ledger.{Numbered}
 use Rattle.spool_ledger.specs.Ledger.{new_ledger}
 use Rattle.spool_file.specs.File.{SpoolFile}
@@ -65,6 +64,9 @@ use Rattle.spool_law.specs.Tries.{tries_in}
 use Rattle.tool_law.proofs.MildCommands.{sound-self}
 use Rattle.tool_law.proofs.QuietTurns.{comms-quiet}
 use Rattle.tool_law.proofs.QuietMessages.{by-t4-quiet, taking-held, unload-held, ended-quiet}
+use Rattle.tool_law.proofs.Areas.{started-area}
+use Rattle.tool_law.proofs.FirstSteps.{first-goes}
+use Rattle.tool_law.proofs.SetupStarts.{setup-history, setup-noted, setup-of-start, setup-tried, setup-tries, setup_said}
 use Rattle.tool_law.proofs.QuietSamples.{made-quiet, sampling-quiet}
 use Rattle.tool_law.proofs.QuietCommands.{failed-is-quiet, took-quiet, told-quiet, beginning-quiet, t3-quiet}
 use Rattle.tool_law.proofs.KeptSteps.{begun-unended, goes-on}
@@ -188,14 +190,33 @@ module _ (plan : EquipmentPlan) (fits : EquipmentPlanFits plan) (slots : ℕ) (s
   pub ended-sound : KeepsSound end_of_spooling
   ended-sound own e sound = any-sound _ (ended-quiet plan IsAny fits slots stood own e (any-held own sound)).sound
 
+  unowed-sound : (own : OwnView) → IsSound plan slots stood own → IsSound plan slots stood (unowed own)
+  unowed-sound own sound = record {
+    plan_is = sound.plan_is;
+    texts = sound.texts;
+    traced = sound.traced;
+    reports = sound.reports;
+    ledger = sound.ledger;
+  }
+
+  answering-sound : KeepsSound answering
+  answering-sound own e sound = go own.owed
+    where
+      go : (owed : Option Owed) → IsSound plan slots stood (owed_turn owed (unowed own)).own
+      go None = unowed-sound own sound
+      go (Some (Keep primary)) = unowed-sound own sound
+
   pub last-sound : (oldest : Option Spooled) → IfSome oldest CanBeSent → (now : ℕ) → AllKeepSound (last_parts oldest
       now)
   last-sound oldest can now = (
-    (λ own e sound. any-sound _
-        (unload-held plan IsAny fits slots stood (λ system. tt) oldest can own e (any-held own sound))),
+    answering-sound,
     (
-      (λ own e sound. any-sound _ (ended-quiet plan IsAny fits slots stood own e (any-held own sound)).sound),
-      ((λ own e sound. sound), ((λ own e sound. sound), tt)),
+      (λ own e sound. any-sound _
+          (unload-held plan IsAny fits slots stood (λ system. tt) oldest can own e (any-held own sound))),
+      (
+        (λ own e sound. any-sound _ (ended-quiet plan IsAny fits slots stood own e (any-held own sound)).sound),
+        ((λ own e sound. sound), ((λ own e sound. sound), tt)),
+      ),
     ),
   )
 
@@ -229,6 +250,14 @@ module _ (plan : EquipmentPlan) (fits : EquipmentPlanFits plan) where
       ledger = carried-good s.node.own.ledger good.own.ledger;
     };
     list = settled-good s.node.own.ledger s.file good.own.ledger good.list;
+  }
+
+  -- the setup that is kept behind that
+  pub kept-view-good : (s : EquipmentView) → IsGoodView s → IsGoodView (kept_view s)
+  kept-view-good s good = record {
+    own = good.own;
+    list = subst AllCanBeSent
+        (sym (kept-same (λ (file : SpoolFile). file.list) s.node.own s.file (λ bytes other. refl))) good.list;
   }
 
   pub begun-good : (s : EquipmentView) (input : Input ToolCommand) (now : ℕ) → IsGoodView s
@@ -300,62 +329,38 @@ module _ (plan : EquipmentPlan) (fits : EquipmentPlanFits plan) where
     where
       go : (went : Went EquipmentView Happening) → IsGoodView (step_in went).next
           → IsGoodView (step_in (and_then (settled_went went) (ended_step now))).next
-      go (Goes step) so = ended-good (settled_step step) now (settled-view-good step.next so)
+      go (Goes step) so =
+          ended-good (kept_step (settled_step step)) now
+          (kept-view-good (settled step.next) (settled-view-good step.next so))
       go (Spent step) so = settled-view-good step.next so
 
 -- ---- where the disk stops a step
 
-pub split-change : (notes : List Happening) → notes ≡ up_to_change notes ++ behind_change notes
-split-change [] = refl
-split-change (what ∷ rest) = go (is_before_change what) (split-change rest)
-  where
-    go : (is_one : Bool) → rest ≡ up_to_change rest ++ behind_change rest
-        → what ∷ rest
-        ≡ (what ∷ (if is_one then [] else up_to_change rest)) ++ (if is_one then rest else behind_change rest)
-    go true same = refl
-    go false same = ap (λ (ns : List Happening). what ∷ ns) same
-
 pub fronts-are :
     (works : List DiskWork) (before notes front : List Happening) → Has (fronts_of before works notes) front
     → IsFront front (before ++ notes)
-fronts-are [] before notes front has = absurd has
-fronts-are (DiskWork.Reserve ∷ works) before notes front (inl same) =
-    subst (λ (f : List Happening). IsFront f (before ++ notes)) (sym same) (front-more before notes)
-fronts-are (DiskWork.Reserve ∷ works) before notes front (inr has) = fronts-are works before notes front has
-fronts-are (DiskWork.Change one ∷ works) before notes front has =
-    go has (λ later. fronts-are works (before ++ up_to_change notes) (behind_change notes) front later)
-  where
-    whole : before ++ notes ≡ (before ++ up_to_change notes) ++ behind_change notes
-    whole =
-        ap (λ (ns : List Happening). before ++ ns) (split-change notes)
-        ∙ sym (append_assoc before (up_to_change notes) (behind_change notes))
-
-    go : (front ≡ before ++ up_to_change notes)
-        ⊎ Has (fronts_of (before ++ up_to_change notes) works (behind_change notes)) front
-        → (Has (fronts_of (before ++ up_to_change notes) works (behind_change notes)) front
-        → IsFront front ((before ++ up_to_change notes) ++ behind_change notes))
-        → IsFront front (before ++ notes)
-    go (inl same) more = record {
-      rest = behind_change notes;
-      whole = whole ∙ ap (λ (ns : List Happening). ns ++ behind_change notes) (sym same);
-    }
-    go (inr has) more = subst (λ (ns : List Happening). IsFront front ns) (sym whole) (more has)
-fronts-are (DiskWork.ReadOldest slots ∷ works) before notes front (inl same) =
-    subst (λ (f : List Happening). IsFront f (before ++ notes)) (sym same) (front-same (before ++ notes))
-fronts-are (DiskWork.ReadOldest slots ∷ works) before notes front (inr has) = fronts-are works before notes front has
+fronts-are works before notes front has =
+    each-front (λ (ns : List Happening). IsFront ns (before ++ notes))
+    (λ some more is.
+    front-both (some ++ up_to_change more) (some ++ more) (before ++ notes)
+    (record { rest = behind_change more; whole = up-to some more }) is) works before notes front
+    (front-more before notes) (front-same (before ++ notes)) has
 
 -- what was noted up to the works stands in front
 pub act-grows : (went : Went EquipmentView Happening) (now : ℕ)
     → IsFront (step_in went).notes (step_in (and_then (settled_went went) (ended_step now))).notes
 act-grows (Spent step) now = front-same step.notes
 act-grows (Goes step) now =
-    go (after_parts Some parts (node_step (settled_step step))) (parts-grow parts (node_step (settled_step step)))
+    go (after_parts Some parts (node_step done)) (parts-grow parts (node_step done))
   where
+    done : Step EquipmentView Happening
+    done = kept_step (settled_step step)
+
     parts : List ToolPart
-    parts = last_parts (oldest_of (settled step.next)) now
+    parts = last_parts (oldest_of done.next) now
 
     go : (went : Went (Node OwnView Kind) Happening) → IsFront step.notes (step_in went).notes
-        → IsFront step.notes (step_in (went_with_file (settled step.next) went)).notes
+        → IsFront step.notes (step_in (went_with_file done.next went)).notes
     go (Goes next) grows = grows
     go (Spent next) grows = grows
 
@@ -384,22 +389,28 @@ module _ (plan : EquipmentPlan) (fits : EquipmentPlanFits plan) where
   left-at mark room =
       record { ordered = omega arith; four_bytes = grind (arith, nat_tests, room) }
 
+  -- what a start has done: it has noted its setup
+  abbrev said_of : SpoolFile → List Doing
+  said_of file = setup_said plan (setup_in file)
+
   started-at : (file : SpoolFile) → AllCanBeSent file.list → is_marked_out file.mark.value ≡ false
-      → DidOf plan file.mark.value [] (started_on plan file).next
+      → DidOf plan file.mark.value (said_of file) (started_on plan file).next
   started-at file can room =
       let did = begins-new {S = OwnView} {K = Kind} lower (end_plan plan) fits.line
       (IsSound plan file.slots own.ledger.stood) own
       (numbers_from file.mark.value 4096) (left-at file.mark.value room) sound in
       record {
-        sound = record { own = sound; list = can; mark = refl };
-        is = did.is;
-        tried = tt;
-        turn = none-tried (started_on plan file).next.node.core;
-        last = refl;
+        sound = record { own = sound; list = can; mark = refl; area = started-area file };
+        is = setup-history plan (setup_in file) (end_plan plan) file.mark.value
+            (started_on plan file).next.node.core did.is;
+        tried = setup-tried plan (setup_in file) (end_plan plan);
+        turn = subst (λ (tries : List ℕ). AreInTurn tries (started_on plan file).next.node.core)
+            (sym (setup-tries plan (setup_in file))) (none-tried (started_on plan file).next.node.core);
+        last = ap newest_of (sym (setup-tries plan (setup_in file)));
       }
     where
       own : OwnView
-      own = new_own plan (new_ledger file.slots (first_in file) (map width file.list))
+      own = new_own plan (setup_in file) (new_ledger file.slots (first_in file) (map width file.list))
 
       sound : IsSound plan file.slots own.ledger.stood own
       sound = record {
@@ -423,12 +434,16 @@ module _ (plan : EquipmentPlan) (fits : EquipmentPlanFits plan) where
           record {
             base = file.mark.value;
             note = Happening.EquipmentStarted (found_in file.list) file.mark.value;
-            said = [];
+            said = said_of file;
             is = started-at file can is;
             above = above;
             of_side = of_equipment (found_in file.list) file.mark.value;
-            of_start = tt;
-            notes = refl;
+            of_start = setup-of-start plan (setup_in file);
+            notes =
+                ap
+                (λ (lines : List Happening).
+                Happening.EquipmentStarted (found_in file.list) file.mark.value ∷ lines)
+                (sym (setup-noted plan (setup_in file)));
             written = refl;
           }
 
@@ -459,85 +474,6 @@ module _ (plan : EquipmentPlan) (fits : EquipmentPlanFits plan) where
             started = started;
           }
           by (Spent step) none = none
-
--- ---- the first step of a start has numbers to draw
-
-module _ (plan : EquipmentPlan) (file : SpoolFile) where
-  first-view : EquipmentView
-  first-view = (started_on plan file).next
-
-  first-own : OwnView
-  first-own = begun first-view.node.own
-
-  asking-own : OwnView
-  asking-own = with_comms asks.next first-own
-
-  rest-parts : List ToolPart
-  rest-parts = line_timer 0 ∷ ((late_parts 0 ++ delay_timer 0 ∷ sample_parts 0) ++ input_part Time 0 ∷ [])
-
-  -- S1F13 under a number, if there is one
-  asking-went : List ℕ → Option ℕ → Went (Node OwnView Kind) Happening
-  asking-went body next =
-      went_with asking-own
-      (and_then (and_then (draws next (sends Some (sent.establish_request body))
-      (noted Some (Happening.Comms comms_name.WaitCra) (core_step (at_first first-view.node)))) (carried Some []))
-      (all_done Some []))
-
-  -- what comes of the first turn
-  first-turn : (over : Bool) (body : Text) → ToolTurn
-  first-turn over body =
-      if over then quiet_turn first-own
-      else fixed_turn asking-own
-      (Note (Happening.Comms comms_name.WaitCra) ∷ sent.primary_commands sent.establish_request body)
-
-  -- and of the step
-  first-act : Went (Node OwnView Kind) Happening → Went EquipmentView Happening
-  first-act went =
-      and_then (settled_went (went_with_file first-view (and_then went (after_parts Some rest-parts)))) (ended_step 0)
-
-  goes-by :
-      (over : Bool) (body : Text) (step : Step EquipmentView Happening)
-      → first-act (after_turn Some (first-turn over body) (at_first first-view.node)) ≢ Spent step
-  unfolding late_parts sample_parts first-act first-turn first-view first-own asking-own rest-parts asking-went
-  goes-by true body step same = absurd (cc)
-  goes-by false text.TooLong step same = absurd (cc)
-  goes-by false (text.Body body) step same =
-      subst
-      (λ (went : Went (Node OwnView Kind) Happening). first-act went ≢ Spent step)
-      (ap (asking-went body) (sym drawn)) (λ other. absurd (cc)) same
-    where
-      mark : ℕ
-      mark = file.mark.value
-
-      drawn : next_number (numbers_from mark 4096) ≡ Some mark
-      drawn = go (mark == mark + 4096) refl
-        where
-          go : (none : Bool) → (mark == mark + 4096) ≡ none → (if none then None else Some mark) ≡ Some mark
-          go true is = absurd (grind (arith, nat_tests, is))
-          go false is = refl
-
-  first-goes :
-      (step : Step EquipmentView Happening) → act (started_on plan file).next Time 0 ≢ Spent step
-  unfolding late_parts sample_parts first-act first-turn first-view first-own asking-own rest-parts asking-went
-  first-goes step same =
-      goes-by (not plan.enable) (sent.text_of first-own (identity_of first-own.tables)) step (starts-by ∙ same)
-    where
-      starts-by :
-          first-act
-          (after_turn Some (first-turn (not plan.enable) (sent.text_of first-own (identity_of first-own.tables)))
-          (at_first first-view.node)) ≡ act first-view Time 0
-      starts-by = go (needs_numbers first-view) refl
-        where
-          go : (needs : Bool) → needs_numbers first-view ≡ needs
-              → first-act
-              (after_turn Some (first-turn (not plan.enable) (sent.text_of first-own (identity_of first-own.tables)))
-              (at_first first-view.node))
-              ≡ and_then (settled_went (and_then
-              (if needs then if is_marked_out first-view.file.mark.value then Spent (at_first first-view)
-              else Goes (at_first (reserved first-view)) else Goes (at_first first-view))
-              (parts_done (first_parts Time 0)))) (ended_step 0)
-          go true is = absurd (grind (arith, nat_tests, is))
-          go false is = refl
 
 -- ---- the law
 

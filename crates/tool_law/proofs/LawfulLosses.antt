@@ -1,7 +1,8 @@
 -- That the equipment keeps the law of an end wherever its power is lost, and so all of it: proofs, which stand here
 -- since an impl cites them.
 use Rattle.std.proofs.Common.{◌⊎◌, inl, inr, ◌≡◌, refl, sym, ap, subst, ◌∙◌, ◌+◌, arith, Bool, true, false, not, ℕ, ◌<◌}
-use Rattle.std.proofs.Common.{◌≤◌, List, [], ◌∷◌, ◌++◌, All, map, Some, if◌then◌else◌, ◌&&◌}
+use Rattle.std.proofs.Common.{◌≤◌, List, [], ◌∷◌, ◌++◌, All, map, Option, Some, None, if◌then◌else◌, ◌&&◌}
+use Rattle.std.specs.Option.{option_map_or}
 use Rattle.std.proofs.Math.Nat.{le_trans}
 use Rattle.std.proofs.lemmas.List.Elements.{All-head, All-tail}
 use Rattle.disk_base.specs.declared.cut.CutChoice.{CutChoice}
@@ -22,9 +23,10 @@ use Rattle.trace_log.specs.declared.commands.ToolCommand.{ToolCommand}
 use Rattle.trace_log.specs.Log.{Happening}
 use Rattle.equipment_tables.specs.declared.plan.EquipmentPlan.{EquipmentPlan}
 use Rattle.equipment_tables.specs.Plan.{EquipmentPlanFits}
-use Rattle.spool_works.specs.DiskWorks.{DiskWork, behind_change, up_to_change}
-use Rattle.tool_step.specs.Disk.{read_works, standing_in, takes_up, works_behind, works_of}
-use Rattle.spool_works.specs.DiskWorks.DiskWork.{Change, ReadOldest, Reserve}
+use Rattle.spool_works.specs.DiskWorks.{DiskWork, behind_change, standing_behind, up_to_change}
+use Rattle.tool_step.specs.Disk.{keep_works, read_works, standing_in, takes_up, works_behind, works_of}
+use Rattle.spool_works.specs.DiskWorks.DiskWork.{Change, Keep, ReadOldest, Reserve}
+use Rattle.tool_step.specs.Setup.{to_keep}
 use Rattle.tool_step.specs.End.{machine}
 use Rattle.tool_step.specs.Equipment.{EquipmentView, act, begun_step, ended_step, is_marked_out, needs_numbers}
 use Rattle.tool_step.specs.Equipment.{parts_done, reserved, restarts, settled_went, starts}
@@ -32,7 +34,7 @@ use Rattle.tool_law.proofs.Lawful.{IsGoodView, Loses, begun-good, lawful-so, sta
 use Rattle.tool_law.proofs.KeptSteps.{goes-on}
 use Rattle.tool_law.specs.Laws.{DidOf}
 use Rattle.tool_step.proofs.LossCalls.{AtEach, at-call, losses-counted}
-use Rattle.tool_step.proofs.StepFiles.{ended-file, parts-file, settled-mark}
+use Rattle.tool_step.proofs.StepFiles.{ended-file, parts-file, settled-mark, works-same}
 use Rattle.spool_works.proofs.EachLoss.{each-work}
 use Rattle.spool_works.proofs.LossCounts.{Each}
 use Rattle.tool_step.specs.Losses.{left_as}
@@ -50,6 +52,7 @@ ended-mark : (went : Went EquipmentView Happening) (now : ℕ)
     ≡ (step_in went).next.file.mark.value
 ended-mark went now =
     ap (λ (file : SpoolFile). file.mark.value) (ended-file went now)
+    ∙ works-same (λ (file : SpoolFile). file.mark.value) went (λ bytes other. refl)
     ∙ settled-mark (step_in went).next.node.own.ledger (step_in went).next.file
 
 -- ---- what is left at each call
@@ -130,11 +133,53 @@ module _ (was : SpoolFile) (last : ℕ) where
       go false = tt
   read-well (Spent step) st before notes is = tt
 
+  -- the setup is kept, which changes nothing else, and then a message may be read
+  keep-well :
+      (went : Went EquipmentView Happening) (st : Standing) (before notes : List Happening) → IsHighEnough st.file
+      → AtEach LeavesWell st before (keep_works went ++ read_works went) notes
+  keep-well (Spent step) st before notes is = tt
+  keep-well (Goes step) st before notes is = go (to_keep step.next.node.own)
+    where
+      front : List Happening
+      front = before ++ up_to_change notes
+
+      left : IsLeftWell was last front st.file
+      left = at-mark front st.file is
+
+      go : (found : Option (List ℕ))
+          → AtEach LeavesWell st before
+          (option_map_or (λ (bytes : List ℕ). Keep bytes ∷ []) found [] ++ read_works (Goes step)) notes
+      go None = read-well (Goes step) st before notes is
+      go (Some bytes) = (
+        each-work (IsLeftWell was last front) st (Keep bytes) left
+            (λ gates. record {
+              can = left.can;
+              version_is = left.version_is;
+              slots_are = left.slots_are;
+              above = left.above;
+              most = left.most;
+            })
+            (record {
+              can = left.can;
+              version_is = left.version_is;
+              slots_are = left.slots_are;
+              above = left.above;
+              most = left.most;
+            }),
+        read-well (Goes step) (standing_behind st (Keep bytes)) front (behind_change notes) (record {
+          can = is.can;
+          version_is = is.version_is;
+          slots_are = is.slots_are;
+          above = is.above;
+          most = is.most;
+        }),
+      )
+
   works-well :
       (works : List Work) (went : Went EquipmentView Happening) (st : Standing) (before notes : List Happening)
       → All PutsGood works → IsHighEnough st.file
-      → AtEach LeavesWell st before (map Change works ++ read_works went) notes
-  works-well [] went st before notes good is = read-well went st before notes is
+      → AtEach LeavesWell st before (map Change works ++ keep_works went ++ read_works went) notes
+  works-well [] went st before notes good is = keep-well went st before notes is
   works-well (one ∷ works) went st before notes good is =
       let front = before ++ up_to_change notes in (
         work-well front st one (All-head PutsGood one works good) (at-mark front st.file is),

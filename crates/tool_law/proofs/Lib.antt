@@ -1,9 +1,11 @@
+pub mod Areas
 pub mod CommandWalks
 pub mod CoreSteps
 pub mod Drawing
 pub mod DrawnReplies
 pub mod DrawnSamples
 pub mod DrawnTurns
+pub mod FirstSteps
 pub mod KeptSteps
 pub mod Lawful
 pub mod LawfulLosses
@@ -13,6 +15,7 @@ pub mod QuietCommands
 pub mod QuietMessages
 pub mod QuietSamples
 pub mod QuietTurns
+pub mod SetupStarts
 pub mod SpentCauses
 pub mod SpentRuns
 pub mod SpoolSound

@@ -34,8 +34,13 @@ use Rattle.tool_step.specs.declared.kind.Kind.TheVariants as kind
 use Rattle.equipment_tables.specs.declared.plan.EquipmentPlan.{EquipmentPlan}
 use Rattle.equipment_tables.specs.Answers.{answer_of, established_of, lines_of, reply_to}
 use Rattle.tool_step.specs.Codes.{is_accepted_in, is_granted_in}
-use Rattle.tool_step.specs.Own.{OwnView, event_report, is_communicating, is_enabled_in as is_comms_enabled, is_local, is_online, turn_before, turn_of, waiting_report, waiting_data, with_control, with_ledger, with_tables, with_tried, without_grant, without_report, without_waiting_data}
-use Rattle.tool_step.specs.Messages.{answer_turn, control_answer_duties, control_request_turn, dropped_turn, error_turn, established_duties, established_turn, is_establish_request, is_online_request, known_turn, message_turn, offline_turn, primary_turn, read_turn, request_turn, stray_turn}
+use Rattle.setup_store.specs.Entries.{Entry, bytes_of, has_room}
+use Rattle.tool_step.specs.declared.owed.Owed.{Owed}
+use Rattle.tool_step.specs.declared.owed.Owed.TheVariants.{Keep}
+use Rattle.tool_step.specs.Setup.{accepted_item, has_space_code, next_setup, no_space}
+use Rattle.tool_step.specs.Step.{answering, owed_turn}
+use Rattle.tool_step.specs.Own.{OwnView, ToolTurn, event_report, is_communicating, is_enabled_in as is_comms_enabled, is_local, is_online, turn_before, turn_of, unowed, waiting_report, waiting_data, with_control, with_ledger, with_tables, with_tried, without_grant, without_report, without_waiting_data}
+use Rattle.tool_step.specs.Messages.{answer_turn, control_answer_duties, control_request_turn, dropped_turn, error_turn, established_duties, established_turn, is_establish_request, heard_turn, is_online_request, keep_turn, kept_turn, known_turn, message_turn, offline_turn, primary_turn, read_turn, recorded_turn, request_turn, stray_turn, unkept_duties}
 use Rattle.equipment_tables.specs.Plan.{EquipmentPlanFits}
 use Rattle.tool_step.specs.Replies.{given_up_by_t4, given_up_turn, granted_turn, loss_turn, matched_turn, reply_turn, secondary_turn, timeout_turn}
 use Rattle.equipment_tables.specs.Requests.{request_of}
@@ -468,10 +473,52 @@ module _ (plan : EquipmentPlan) (TriedIs : Option ℕ → Type 0) (fits : Equipm
         → (Quiet plan TriedIs fits slots stood) (read_turn now read header message own)
     read-quiet now None header message own sound =
         error-is-quiet 7 (record { byte = omega arith; odd = refl }) header own sound
-    read-quiet now (Some request) header message own sound =
-        (led-quiet plan TriedIs fits slots stood) (Note (Happening.Recorded (Past.Asked message)))
-        (request_turn request now message own)
-        (one-note (Happening.Recorded (Past.Asked message)) tt) (request-is-quiet request now message own sound)
+    read-quiet now (Some request) header message own sound = heard (next_setup request message own)
+      where
+        counts : (turn : ToolTurn) → (Quiet plan TriedIs fits slots stood) turn
+            → (Quiet plan TriedIs fits slots stood) (recorded_turn message turn)
+        counts turn is =
+            (led-quiet plan TriedIs fits slots stood) (Note (Happening.Recorded (Past.Asked message))) turn
+            (one-note (Happening.Recorded (Past.Asked message)) tt) is
+
+        unkept : (coded : Bool) → (AreQuiet plan TriedIs fits slots stood) (unkept_duties coded message own)
+        unkept true =
+            answers-quiet (sent.text_of own (code_item no_space))
+            ((text-is plan TriedIs fits slots stood) own sound (code_item no_space)) message
+        unkept false = abort-is-quiet message
+
+        by_room : (list : List Entry) (room : Bool)
+            → (Quiet plan TriedIs fits slots stood) (kept_turn room list request message own)
+        by_room list true =
+            counts (keep_turn list request message own)
+            ((fixed-quiet plan TriedIs fits slots stood) (keep_turn list request message own).own
+            (Note (Happening.Keeping message) ∷ Note (Happening.Kept message) ∷ [])
+            ((kept plan TriedIs fits slots stood) own (keep_turn list request message own).own sound refl refl refl refl
+            refl refl)
+            ((one-note (Happening.Keeping message) tt).0, one-note (Happening.Kept message) tt))
+        by_room list false = record { quiet = unkept (has_space_code message); sound = sound }
+
+        heard : (list : Option (List Entry))
+            → (Quiet plan TriedIs fits slots stood) (heard_turn list now request message own)
+        heard None = counts (request_turn request now message own) (request-is-quiet request now message own sound)
+        heard (Some list) = by_room list (has_room (bytes_of list))
+
+    -- what waits for the works of a step is answered
+    pub answering-quiet : (own : OwnView) (e : EndView Kind) → (Sound plan TriedIs fits slots stood) own
+        → (Quiet plan TriedIs fits slots stood) (answering own e)
+    answering-quiet own e sound = go own.owed
+      where
+        held : (Sound plan TriedIs fits slots stood) (unowed own)
+        held = (kept plan TriedIs fits slots stood) own (unowed own) sound refl refl refl refl refl refl
+
+        go : (owed : Option Owed) → (Quiet plan TriedIs fits slots stood) (owed_turn owed (unowed own))
+        go None = record { quiet = tt; sound = held }
+        go (Some (Keep primary)) = record {
+          quiet =
+              answers-quiet (sent.text_of (unowed own) (accepted_item primary))
+              ((text-is plan TriedIs fits slots stood) (unowed own) held (accepted_item primary)) primary;
+          sound = held;
+        }
 
     known-quiet : (now : ℕ) (header : Header) (message : Message) (own : OwnView) → (Sound plan TriedIs fits slots stood) own
         → (Quiet plan TriedIs fits slots stood) (known_turn now header message own)

@@ -21,10 +21,10 @@ use Rattle.tool_law.specs.SpentSteps.{DrawsFew, SpentByCause, ends_spent, finds_
 use Rattle.tool_step.specs.Spooling.{end_of_spooling, unload_part}
 use Rattle.tool_step.specs.Replies.{block_timer, reply_timer}
 use Rattle.tool_step.specs.Sampling.{made_part, sample_parts, sampling}
-use Rattle.tool_step.specs.Step.{beginning, character, delay_timer, first_parts, input_part, is_spent, last_parts, late_parts, line_timer, offer}
+use Rattle.tool_step.specs.Step.{answering, beginning, character, delay_timer, first_parts, input_part, is_spent, last_parts, late_parts, line_timer, offer}
 use Rattle.tool_law.proofs.Drawing.{Costs, Needs, costs-as, costs-none, costs-on, costs-then, needs-none, or-false, takes-stay}
 use Rattle.tool_law.proofs.DrawnSamples.{made-need, sampling-need}
-use Rattle.tool_law.proofs.DrawnReplies.{beginning-need, block-timer-need, character-need, closing-need, delay-need, ending-need, is_long, line-timer-need, offer-need, reply-timer-need, told-need, unload-need}
+use Rattle.tool_law.proofs.DrawnReplies.{answering-need, beginning-need, block-timer-need, character-need, closing-need, delay-need, ending-need, is_long, line-timer-need, offer-need, reply-timer-need, told-need, unload-need}
 
 abbrev NodeStep : Type 0
 NodeStep = Step (Node OwnView Kind) Happening
@@ -208,11 +208,16 @@ first-cost input now step =
 last-cost : (oldest : Option Spooled) (now : ℕ) (step : NodeStep)
     → NodeCosts 2 false step.next.core.numbers (after_parts Some (last_parts oldest now) step)
 last-cost oldest now step =
-    costs-then node_numbers 2 0 false false step.next.core.numbers
-    (after_turn Some (unload_part oldest step.next.own step.next.core) step)
+    costs-then node_numbers 0 2 false false step.next.core.numbers
+    (after_turn Some (answering step.next.own step.next.core) step)
+    (after_parts Some (unload_part oldest ∷ end_of_spooling ∷ offer now ∷ closes ∷ []))
+    (of-needs 0 false (answering step.next.own step.next.core) step (answering-need step.next.own step.next.core))
+    (λ zero.
+    costs-then node_numbers 2 0 false false zero.next.core.numbers
+    (after_turn Some (unload_part oldest zero.next.own zero.next.core) zero)
     (after_parts Some (end_of_spooling ∷ offer now ∷ closes ∷ []))
-    (of-needs 2 false (unload_part oldest step.next.own step.next.core) step
-    (unload-need oldest step.next.own step.next.core))
+    (of-needs 2 false (unload_part oldest zero.next.own zero.next.core) zero
+    (unload-need oldest zero.next.own zero.next.core))
     (λ one.
     costs-then node_numbers 0 0 false false one.next.core.numbers
     (after_turn Some (end_of_spooling one.next.own one.next.core) one)
@@ -226,7 +231,7 @@ last-cost oldest now step =
     costs-then node_numbers 0 0 false false three.next.core.numbers
     (after_turn Some (closes three.next.own three.next.core) three) (after_parts Some [])
     (of-needs 0 false (closes three.next.own three.next.core) three (closing-need three.next.own three.next.core))
-    (λ four. costs-none four.next.core.numbers))))
+    (λ four. costs-none four.next.core.numbers)))))
 
 -- ---- the whole step
 

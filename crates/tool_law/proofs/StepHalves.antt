@@ -10,7 +10,7 @@ use Rattle.trace_log.specs.Names.{Spooled}
 use Rattle.trace_log.specs.declared.commands.ToolCommand.{ToolCommand}
 use Rattle.message_end.specs.Calls.{dropped_now, failed_at, took_at}
 use Rattle.line_end.specs.Step.{LineCall}
-use Rattle.message_end.specs.Core.{Step, Went}
+use Rattle.message_end.specs.Core.{Step, Went, step_in}
 use Rattle.message_end.specs.Core.Went.{Goes, Spent}
 use Rattle.message_end.specs.Core.Command.{Take, Tick}
 use Rattle.message_end.specs.Doings.{Doing}
@@ -35,18 +35,19 @@ use Rattle.tool_step.specs.Equipment.{EquipmentView, ended_step, file_step, node
 use Rattle.spool_works.specs.Found.{spooled_of}
 use Rattle.tool_law.specs.Laws.{DidOf}
 use Rattle.tool_step.specs.Sampling.{made_part, sample_parts, sampling}
-use Rattle.tool_step.specs.Step.{beginning, delay_timer, end_plan, failed_turn, first_parts, input_part, last_parts, late_parts, line_timer, offer, took_turn}
+use Rattle.tool_step.specs.Step.{answering, beginning, delay_timer, end_plan, failed_turn, first_parts, input_part, last_parts, late_parts, line_timer, offer, took_turn}
 use Rattle.equipment_tables.specs.Tables.{most_transmitted}
 use Rattle.spool_ledger.specs.Ledger.{Numbered}
 use Rattle.spool_ledger.specs.Unloading.{after_next, next_number as next_unloaded, taken_up}
 use Rattle.spool_file.specs.Slot.{Message as Kept}
 use Rattle.tool_law.specs.Tried.{AreInTurn, newest_of}
+use Rattle.tool_law.proofs.Areas.{AllKeepArea, HasAsFile, area-after, last-area}
 use Rattle.tool_law.proofs.TriedParts.{AllKeep, NodeTried, SomeTried, all-both, all-many, calls-less, drop-keeps, led-at, mild-keeps, offer-keeps, parts-then, taking-at, turn-at}
 use Rattle.tool_law.proofs.TriedCourse.{take-at, tick-at}
 use Rattle.tool_step.specs.Tool.{told_turn}
 use Rattle.tool_law.proofs.MildCommands.{sound-self}
 use Rattle.tool_law.proofs.QuietTurns.{nothing-quiet, comms-quiet}
-use Rattle.tool_law.proofs.QuietMessages.{by-t4-quiet, out-quiet, waiting-is, next-held, ended-quiet}
+use Rattle.tool_law.proofs.QuietMessages.{answering-quiet, by-t4-quiet, out-quiet, waiting-is, next-held, ended-quiet}
 use Rattle.tool_law.proofs.QuietSamples.{made-quiet, sampling-quiet}
 use Rattle.tool_law.proofs.QuietCommands.{failed-is-quiet, took-quiet, told-quiet, beginning-quiet, t3-quiet}
 
@@ -315,14 +316,16 @@ module _ (plan : EquipmentPlan) (base : ℕ) (fits : EquipmentPlanFits plan) (sl
     last-at : (oldest : Option Spooled) → IfSome oldest CanBeSent → (step : ToolStep) → HasStepped step
         → OnEither HasClosed HasBegun (after_parts Some (last_parts oldest now) step)
     last-at oldest can step so =
-        either-then HasStepped HasBegun HasClosed
-        (after_turn Some (unload_part oldest step.next.own step.next.core) step) (after_parts Some rest)
-        (either-less HasStepped HasStepped HasStepped HasBegun
-        (after_turn Some (unload_part oldest step.next.own step.next.core) step)
-        (unload-at so.tries oldest can step so.at) (λ last at. at)
-        (λ last at. some-less at.tries (AreOfStep input now) (AreBegunOf input now) last (begun-stepped input now)
-        at.at))
-        (λ last at. ended last at)
+        parts-then (end_plan plan) base fits.line doings now limit (HeldAt plan slots stood) so.tries
+        (AreOfStep input now) HasClosed HasBegun (answering ∷ []) (unload_part oldest ∷ rest) step (
+          mild-keeps (end_plan plan) base fits.line doings now limit (HeldAt plan slots stood) so.tries
+              (AreOfStep input now) answering
+              (λ own e held. answering-quiet plan (TriedIs so.tries) fits slots stood own e held),
+          tt,
+        )
+        so.at
+        (λ end is. some-less so.tries (AreOfStep input now) (AreBegunOf input now) end (begun-stepped input now) is)
+        (λ last is. unloaded last (some-at so.tries (AreOfStep input now) last is))
       where
         rest : List ToolPart
         rest = end_of_spooling ∷ offer now ∷ closes ∷ []
@@ -349,16 +352,30 @@ module _ (plan : EquipmentPlan) (base : ℕ) (fits : EquipmentPlanFits plan) (sl
               is = refl;
             })
 
+        unloaded : (last : ToolStep) → HasStepped last
+            → OnEither HasClosed HasBegun (after_parts Some (unload_part oldest ∷ rest) last)
+        unloaded last at =
+            either-then HasStepped HasBegun HasClosed
+            (after_turn Some (unload_part oldest last.next.own last.next.core) last) (after_parts Some rest)
+            (either-less HasStepped HasStepped HasStepped HasBegun
+            (after_turn Some (unload_part oldest last.next.own last.next.core) last)
+            (unload-at at.tries oldest can last at.at) (λ next one. one)
+            (λ next one. some-less one.tries (AreOfStep input now) (AreBegunOf input now) next
+            (begun-stepped input now) one.at))
+            (λ next one. ended next one)
+
     -- ---- the whole step
 
     abbrev FileStep : Type 0
     FileStep = Step EquipmentView Happening
 
-    -- so it is of the equipment with its spool, whose messages can be sent, and whose mark is where the numbers end
+    -- so it is of the equipment with its spool, whose messages can be sent, whose mark is where the numbers end, and
+    -- which has an area where a setup is kept
     pub record FileAt (Called : List LineCall → Type 0) (step : FileStep) : Type 0 where
       pub node : SomeAt Called (node_step step)
       pub list : AllCanBeSent step.next.file.list
       pub mark : step.next.file.mark.value ≡ limit
+      pub area : HasAsFile step.next.node.own step.next.file
 
     abbrev pub FileStepped : FileStep → Type 0
     FileStepped step = FileAt (AreOfStep input now) step
@@ -375,29 +392,38 @@ module _ (plan : EquipmentPlan) (base : ℕ) (fits : EquipmentPlanFits plan) (sl
     -- parts leave the file as it is
     pub parts-at :
         (parts : List ToolPart) (step : FileStep) → AllCanBeSent step.next.file.list → step.next.file.mark.value ≡ limit
+        → AllKeepArea parts → HasAsFile step.next.node.own step.next.file
         → OnEither HasStepped HasBegun (after_parts Some parts (node_step step))
         → OnEither FileStepped FileBegun (parts_done parts step)
-    parts-at parts step list mark = go (after_parts Some parts (node_step step))
+    parts-at parts step list mark keep area =
+        go (after_parts Some parts (node_step step)) (area-after parts keep (node_step step) ∙ area)
       where
-        go : (went : ToolWent) → OnEither HasStepped HasBegun went
+        go : (went : ToolWent) → HasAsFile (step_in went).next.own step.next.file → OnEither HasStepped HasBegun went
             → OnEither FileStepped FileBegun (went_with_file step.next went)
-        go (Goes next) at = record { node = at; list = list; mark = mark }
-        go (Spent next) at = record { node = at; list = list; mark = mark }
+        go (Goes next) has at = record { node = at; list = list; mark = mark; area = has }
+        go (Spent next) has at = record { node = at; list = list; mark = mark; area = has }
 
     last-parts-at :
         (parts : List ToolPart) (step : FileStep) → AllCanBeSent step.next.file.list → step.next.file.mark.value ≡ limit
+        → AllKeepArea parts → HasAsFile step.next.node.own step.next.file
         → OnEither HasClosed HasBegun (after_parts Some parts (node_step step))
         → OnEither FileClosed FileBegun (parts_done parts step)
-    last-parts-at parts step list mark = go (after_parts Some parts (node_step step))
+    last-parts-at parts step list mark keep area =
+        go (after_parts Some parts (node_step step)) (area-after parts keep (node_step step) ∙ area)
       where
-        go : (went : ToolWent) → OnEither HasClosed HasBegun went
+        go : (went : ToolWent) → HasAsFile (step_in went).next.own step.next.file → OnEither HasClosed HasBegun went
             → OnEither FileClosed FileBegun (went_with_file step.next went)
-        go (Goes next) at = record {
+        go (Goes next) has at = record {
           before = file_step step.next at.before;
-          stepped = record { node = at.stepped; list = list; mark = mark };
+          stepped = record {
+            node = at.stepped;
+            list = list;
+            mark = mark;
+            area = subst (λ (last : ToolStep). HasAsFile last.next.own step.next.file) at.is has;
+          };
           is = ap (λ (node : ToolStep). file_step step.next node) at.is;
         }
-        go (Spent next) at = record { node = at; list = list; mark = mark }
+        go (Spent next) has at = record { node = at; list = list; mark = mark; area = has }
 
     -- the oldest message can be sent
     oldest-can : (list : List Kept) → AllCanBeSent list → IfSome (option_map spooled_of (slice_get list 0)) CanBeSent
@@ -406,7 +432,8 @@ module _ (plan : EquipmentPlan) (base : ℕ) (fits : EquipmentPlanFits plan) (sl
 
     pub ended-at : (step : FileStep) → FileStepped step → OnEither FileClosed FileBegun (ended_step now step)
     ended-at step at =
-        last-parts-at (last_parts (oldest_of step.next) now) step at.list at.mark
+        last-parts-at (last_parts (oldest_of step.next) now) step at.list at.mark (last-area (oldest_of step.next) now)
+        at.area
         (last-at (oldest_of step.next) (oldest-can step.next.file.list at.list) (node_step step) at.node)
 
     -- what the equipment has done by then
@@ -423,6 +450,7 @@ module _ (plan : EquipmentPlan) (base : ℕ) (fits : EquipmentPlanFits plan) (sl
                   (held-sound plan slots stood at.node.tries step.next.node.own at.node.at.held);
               list = at.list;
               mark = so.limit_is ∙ sym at.mark;
+              area = at.area;
             };
             is = so.is;
             tried = so.tried;
@@ -445,7 +473,12 @@ module _ (plan : EquipmentPlan) (base : ℕ) (fits : EquipmentPlanFits plan) (sl
     file-closes Such step more = record {
       done = Says Happening.StepEnded ∷ more.done;
       is = record {
-        sound = record { own = more.is.sound.own; list = more.is.sound.list; mark = more.is.sound.mark };
+        sound = record {
+          own = more.is.sound.own;
+          list = more.is.sound.list;
+          mark = more.is.sound.mark;
+          area = more.is.sound.area;
+        };
         is = history-ends (end_plan plan) base (more.done ++ doings) step.next.node.core more.is.is;
         tried = (tt, more.is.tried);
         turn = record {

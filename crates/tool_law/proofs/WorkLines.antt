@@ -15,7 +15,7 @@ use Rattle.trace_log.specs.Log.{Happening, is_before_change}
 use Rattle.spool_works.specs.DiskWorks.{DiskWork, behind_change, up_to_change}
 use Rattle.spool_works.specs.Found.{found_in}
 use Rattle.tool_step.specs.Equipment.{settled_list}
-use Rattle.tool_law.proofs.Lawful.{split-change}
+use Rattle.spool_works.proofs.EachFront.{split-change}
 use Rattle.spool_works.specs.WorkLosses.{MayLeaveAt, storing_at}
 
 -- ---- lines before a change
@@ -35,12 +35,12 @@ has_change (what ∷ rest) = if is_before_change what then true else has_change 
 -- ---- lines with more behind them
 
 -- where one stands before a change, what is behind the first such is behind it still
-abbrev GoesOn : List Happening → List Happening → Type 0
+abbrev pub GoesOn : List Happening → List Happening → Type 0
 GoesOn lines more =
     (has_change (lines ++ more) ≡ true) × (up_to_change (lines ++ more) ≡ up_to_change lines)
     × (behind_change (lines ++ more) ≡ behind_change lines ++ more)
 
-goes-on : (lines more : List Happening) → has_change lines ≡ true → GoesOn lines more
+pub goes-on : (lines more : List Happening) → has_change lines ≡ true → GoesOn lines more
 goes-on [] more is = absurd (cc)
 goes-on (what ∷ lines) more is = go (is_before_change what) is (λ later. goes-on lines more later)
   where
@@ -54,12 +54,12 @@ goes-on (what ∷ lines) more is = go (is_before_change what) is (λ later. goes
         let on = later is in (on.0, ap (λ (ls : List Happening). what ∷ ls) on.1, on.2)
 
 -- where none does, the first one is behind them
-abbrev ComesLater : List Happening → List Happening → Type 0
+abbrev pub ComesLater : List Happening → List Happening → Type 0
 ComesLater lines more =
     (has_change (lines ++ more) ≡ has_change more) × (up_to_change (lines ++ more) ≡ lines ++ up_to_change more)
     × (behind_change (lines ++ more) ≡ behind_change more)
 
-comes-later : (lines more : List Happening) → has_change lines ≡ false → ComesLater lines more
+pub comes-later : (lines more : List Happening) → has_change lines ≡ false → ComesLater lines more
 comes-later [] more none = (refl, refl, refl)
 comes-later (what ∷ lines) more none = go (is_before_change what) none (λ later. comes-later lines more later)
   where

@@ -1,5 +1,5 @@
 -- What the equipment keeps is sound.
-use Rattle.std.specs.Prelude.{◌≡◌, ℕ, ◌<◌, ◌≤◌, ◌%◌, ◌==◌, true, All, IfSome, List, Option, length}
+use Rattle.std.specs.Prelude.{◌≡◌, ℕ, ◌<◌, ◌≤◌, ◌%◌, ◌==◌, true, All, IfSome, List, Option, is_some, length}
 use Rattle.gem_spool.specs.declared.works.Work.{Work}
 use Rattle.gem_spool.specs.declared.works.Work.TheVariants as work
 use Rattle.spool_file.specs.Slot.{Message}
@@ -57,8 +57,10 @@ pub record IsHeld
 abbrev pub AllCanBeSent : List Message → Type 0
 AllCanBeSent = All (λ message. CanBeSent (spooled_of message))
 
--- so can the messages of the spool; and the mark stands where the system bytes end that are left
+-- so can the messages of the spool; the mark stands where the system bytes end that are left; and a setup is kept where
+-- the file has an area
 pub record IsKept (plan : EquipmentPlan) (s : EquipmentView) : Type 0 where
   pub own : IsSound plan s.node.own.ledger.slots s.node.own.ledger.stood s.node.own
   pub list : AllCanBeSent s.file.list
   pub mark : s.node.core.numbers.end ≡ s.file.mark.value
+  pub area : is_some s.node.own.setup ≡ is_some s.file.setup.bytes
