@@ -10,6 +10,9 @@ use Rattle.gem_states.specs.declared.control.ControlIn.{ControlIn}
 use Rattle.gem_states.specs.declared.control.ControlIn.TheVariants as control_in
 use Rattle.gem_trace.specs.declared.request.TraceRequest.{TraceRequest}
 use Rattle.message_flow.specs.declared.message.Message.{Message}
+use Rattle.setup_law.proofs.Notes.{request-rests}
+use Rattle.setup_law.specs.Setup.{list_in}
+use Rattle.setup_store.specs.Entries.{Entry}
 use Rattle.trace_log.specs.declared.commands.ToolCommand.{ToolCommand}
 use Rattle.trace_log.specs.declared.names.Title.{Title}
 use Rattle.trace_log.specs.Log.{Happening, Past}
@@ -34,13 +37,15 @@ use Rattle.spool_ledger.specs.Unloading.{fresh, with_unload}
 use Rattle.tool_reports.specs.Reported.{HoldsItsValues, IsTextOf, count_of, count_of_events, is_of, past_in, reports_in, tables_in}
 use Rattle.tool_step.specs.Sampling.{tiaack_code, tiaack_in, trace_turn}
 use Rattle.tool_step.specs.Sent as sent
+use Rattle.tool_step.specs.Setup.{next_setup}
 use Rattle.tool_law.proofs.CommandWalks.{abort-are, long-are, answers-are}
 use Rattle.tool_law.proofs.TurnWalks.{before-of, established-of, control-request-of}
 use Rattle.tool_law.proofs.LedgerLines.{all-out-lines}
 use Rattle.tool_reports.proofs.HeldReports.{Any, any-lasts, Ends, noted-so, plain-at, so_far}
-use Rattle.tool_reports.proofs.QuietReports.{Holds, IsSpelledSo, holds-as, spelled-so}
+use Rattle.tool_reports.proofs.QuietReports.{Holds, IsSpelledSo, holds-as, setup-is, spelled-so}
 use Rattle.tool_reports.proofs.PlainTurns.{spool-quiet, states-stay, lines-silent, IsPlain, stays, itself, booked-stays, booked-plain, count_waiting}
-use Rattle.tool_reports.proofs.QuietNotes.{AreSettled, IsAsBefore, never-live, quiet-note, settled-more}
+use Rattle.tool_reports.proofs.QuietNotes.{AreSettled, IsAsBefore, never-live, quiet-note, settled-more, still-rests}
+use Rattle.tool_reports.proofs.SetupRequests.{to-keep-is}
 use Rattle.tool_reports.proofs.SilentCommands.{common-silent, AreSilentDuties}
 use Rattle.message_end.proofs.Parts.{either-then}
 use Rattle.tool_law.proofs.CoreSteps.{CoreStep}
@@ -48,27 +53,40 @@ use Rattle.tool_reports.proofs.HostReports.{AsksOf, asks-none, MayReply, other-s
 
 module _
     (plan : EquipmentPlan) (fits : EquipmentPlanFits plan) (looked : TablesAreLookedBackFor)
-    (said : List ToolCommand) (before : List Happening) where
-  -- the request is noted right behind its delivery
+    (start : List Happening) (said : List ToolCommand) (before : List Happening) where
+  -- a request leaves the tables that it asks for
+  pub asked-tables :
+      (asks : Request) (message : Message) (own : OwnView) (notes : List Happening) → own.tables ≡ tables_in plan notes
+      → request_of message.stream message.function message.body ≡ Some asks
+      → (requested asks own).tables ≡ tables_in plan (Happening.Recorded (Past.Asked message) ∷ notes)
+  asked-tables asks message own notes tables is =
+      ap (λ (t : TablesState). asked_after (Some asks) t) tables
+      ∙ sym (ap (λ (r : Option Request). asked_after r (tables_in plan notes)) is)
+      ∙ sym (looked.next plan (past_in notes) (Past.Asked message) fits)
+
+  -- one of which nothing is to be kept is noted right behind its delivery
   pub asked-noted :
       {drawn : Option ℕ} (asks : Request) (message : Message) (own : OwnView) (notes earlier : List Happening)
-      → Holds plan said own drawn notes
+      → Holds plan start said own drawn notes
       → notes ≡ Happening.Received message ∷ earlier
-      → request_of message.stream message.function message.body ≡ Some asks
-      → Holds plan said (requested asks own) drawn (Happening.Recorded (Past.Asked message) ∷ notes)
-  asked-noted asks message own notes earlier holds newest is = record {
+      → request_of message.stream message.function message.body ≡ Some asks → next_setup asks message own ≡ None
+      → Holds plan start said (requested asks own) drawn (Happening.Recorded (Past.Asked message) ∷ notes)
+  asked-noted asks message own notes earlier holds newest is none = record {
     plan_is = holds.plan_is;
-    tables_are =
-        ap (λ (t : TablesState). asked_after (Some asks) t) holds.tables_are
-        ∙ sym (ap (λ (r : Option Request). asked_after r (tables_in plan notes)) is)
-        ∙ sym (looked.next plan (past_in notes) (Past.Asked message) fits);
+    kept_is = holds.kept_is;
+    tables_are = asked-tables asks message own notes holds.tables_are is;
     events_are = holds.events_are;
     commanded = holds.commanded;
     waits = holds.waits;
     live = holds.live;
     tried = holds.tried;
     settled =
-        settled-more plan (Happening.Recorded (Past.Asked message)) notes refl (earlier, newest) refl holds.settled;
+        settled-more plan start (Happening.Recorded (Past.Asked message)) notes tt refl (earlier, newest) refl
+        (λ held at.
+        request-rests plan held (list_in held notes) message notes
+        (sym (to-keep-is plan held notes own holds.tables_are (setup-is own notes holds held) asks message is) ∙ none)
+        at)
+        holds.settled;
   }
 
   -- ---- requests of which nothing is said
@@ -83,7 +101,7 @@ module _
     abbrev SilentOf : List ToolDuty → Type 0
     SilentOf duties = AreSilentDuties (AsksOf message) (asks-none message) Fact lasts duties
 
-    answers-of : (text : Text) → SilentOf (sent.answer_duties text message)
+    pub answers-of : (text : Text) → SilentOf (sent.answer_duties text message)
     answers-of text =
         answers-are (common-silent (AsksOf message) (asks-none message) Fact lasts) text message
         (other-silent message Fact lasts may)
@@ -99,6 +117,7 @@ module _
           duties = is.duties;
           keeps = record {
             plan_is = refl;
+            kept_is = refl;
             tables_are = refl;
             events_are = refl;
             fewer = is.keeps.fewer;
@@ -155,7 +174,7 @@ module _
     trace-plain : (asked : TraceRequest) (now : ℕ) (own : OwnView) → Plain own (trace_turn asked now message own)
     trace-plain asked now own = record {
       duties = answers-of (sent.text_of own (code_item (tiaack_code (tiaack_in asked own))));
-      keeps = stays own (trace_turn asked now message own).own refl refl refl refl refl;
+      keeps = stays own (trace_turn asked now message own).own refl refl refl refl refl refl;
     }
 
     request-plain : (asks : Request) (now : ℕ) (own : OwnView)
@@ -180,12 +199,12 @@ module _
     -- a turn of which nothing is said, behind the primary
     pub request-keeps :
         (asks : Request) (now : ℕ) (own : OwnView) (step : CoreStep) → AsksOf message step.next.asked
-        → Fact (so_far plan said before step)
-        → Holds plan said (requested asks own) step.next.drawn (so_far plan said before step)
-        → Ends plan said before (request_turn asks now message own).own
+        → Fact (so_far plan start said before step)
+        → Holds plan start said (requested asks own) step.next.drawn (so_far plan start said before step)
+        → Ends plan start said before (request_turn asks now message own).own
         (all_done Some (request_turn asks now message own).duties step)
     request-keeps asks now own step it fact holds =
-        plain-at plan said before (AsksOf message) (asks-none message) Fact lasts (requested asks own)
+        plain-at plan start said before (AsksOf message) (asks-none message) Fact lasts (requested asks own)
         (request_turn asks now message own) step (request-plain asks now own) it fact holds
 
   -- ---- reports that are asked for
@@ -197,12 +216,13 @@ module _
 
   answer-sent :
       {drawn : Option ℕ} (message : Message) (text : List ℕ) (own : OwnView) (notes : List Happening)
-      → Holds plan said own drawn notes
+      → Holds plan start said own drawn notes
       → MayAnswer message text notes
-      → Holds plan said own drawn
+      → Holds plan start said own drawn
       (Happening.Sent (reply_of (title_of message) (reply_function message.function) text) ∷ notes)
   answer-sent message text own notes holds may = record {
     plan_is = holds.plan_is;
+    kept_is = holds.kept_is;
     tables_are = holds.tables_are;
     events_are = holds.events_are;
     commanded = holds.commanded;
@@ -219,28 +239,31 @@ module _
     live = holds.live;
     tried = holds.tried;
     settled =
-        settled-more plan
-        (Happening.Sent (reply_of (title_of message) (reply_function message.function) text)) notes refl may.values
-        refl holds.settled;
+        settled-more plan start
+        (Happening.Sent (reply_of (title_of message) (reply_function message.function) text)) notes tt refl may.values
+        refl
+        (still-rests plan (Happening.Sent (reply_of (title_of message) (reply_function message.function) text)) notes
+        refl)
+        holds.settled;
   }
 
   reply-at :
       (message : Message) (text : List ℕ) (own : OwnView) (step : CoreStep) → AsksOf message step.next.asked
-      → Holds plan said own step.next.drawn (so_far plan said before step)
-      → MayAnswer message text (so_far plan said before step)
-      → Ends plan said before own (carried Some (Reply text ∷ []) step)
+      → Holds plan start said own step.next.drawn (so_far plan start said before step)
+      → MayAnswer message text (so_far plan start said before step)
+      → Ends plan start said before own (carried Some (Reply text ∷ []) step)
   reply-at message text own step asks holds may = go step.next.asked asks
     where
       out : Title → Message
       out title = reply_of title (reply_function title.name.function) text
 
       sends : (title : Title) → title ≡ title_of message
-          → Holds plan said own step.next.drawn (Happening.Sent (out title)
-          ∷ so_far plan said before step)
+          → Holds plan start said own step.next.drawn (Happening.Sent (out title)
+          ∷ so_far plan start said before step)
       sends title is =
-          subst (λ (t : Title). Holds plan said own step.next.drawn
-          (Happening.Sent (out t) ∷ so_far plan said before step)) (sym is)
-          (answer-sent message text own (so_far plan said before step) holds may)
+          subst (λ (t : Title). Holds plan start said own step.next.drawn
+          (Happening.Sent (out t) ∷ so_far plan start said before step)) (sym is)
+          (answer-sent message text own (so_far plan start said before step) holds may)
 
       replied : Title → Bool → CoreStep
       replied title full =
@@ -249,32 +272,33 @@ module _
           else queues Some (out title) (with_end (with_asked None step.next) step)
 
       room : (title : Title) → title ≡ title_of message → (full : Bool)
-          → Holds plan said own (replied title full).next.drawn (so_far plan said before (replied title full))
+          → Holds plan start said own (replied title full).next.drawn (so_far plan start said before
+          (replied title full))
       room title is true =
-          noted-so plan said before own (Happening.Full (message_name (out title))) step
-          (holds-as plan said own (so_far plan said before step)
-          (Happening.Full (message_name (out title)) ∷ so_far plan said before step) holds
-          (quiet-note (Happening.Full (message_name (out title))) tt (so_far plan said before step)))
-      room title is false = noted-so plan said before own (Happening.Sent (out title)) step (sends title is)
+          noted-so plan start said before own (Happening.Full (message_name (out title))) step
+          (holds-as plan start said own (so_far plan start said before step)
+          (Happening.Full (message_name (out title)) ∷ so_far plan start said before step) holds
+          (quiet-note (Happening.Full (message_name (out title))) tt (so_far plan start said before step)))
+      room title is false = noted-so plan start said before own (Happening.Sent (out title)) step (sends title is)
 
       go : (asked : Option Title) → AsksOf message asked
-          → Holds plan said own (replies Some asked reply_function text step).next.drawn
-          (so_far plan said before (replies Some asked reply_function text step))
+          → Holds plan start said own (replies Some asked reply_function text step).next.drawn
+          (so_far plan start said before (replies Some asked reply_function text step))
       go None it = holds
       go (Some title) it = room title (it title refl).0 (nat_le 128 (length step.next.outgoing.waiting))
 
   pub answered-at :
       (message : Message) (text : Text) (own : OwnView) (step : CoreStep) → AsksOf message step.next.asked
-      → Holds plan said own step.next.drawn (so_far plan said before step)
+      → Holds plan start said own step.next.drawn (so_far plan start said before step)
       → ((body : List ℕ) → text ≡ answer.Body body → message.wait ≡ true
-      → MayAnswer message body (so_far plan said before step))
-      → Ends plan said before own (all_done Some (sent.answer_duties text message) step)
+      → MayAnswer message body (so_far plan start said before step))
+      → Ends plan start said before own (all_done Some (sent.answer_duties text message) step)
   answered-at message text own step asks holds may = by_text text refl
     where
       silent : (duties : List ToolDuty) → AreSilentDuties (AsksOf message) (asks-none message) Any any-lasts duties
-          → Ends plan said before own (all_done Some duties step)
+          → Ends plan start said before own (all_done Some duties step)
       silent duties are =
-          plain-at plan said before (AsksOf message) (asks-none message) Any any-lasts own
+          plain-at plan start said before (AsksOf message) (asks-none message) Any any-lasts own
           (record { own = own; duties = duties })
           step
           (record { duties = are; keeps = itself own }) asks tt holds
@@ -284,20 +308,21 @@ module _
           if wait then if room then Reply body ∷ [] else Note (Happening.Full (sent.reply_name message)) ∷ [] else []
 
       loud : (body : List ℕ) → text ≡ answer.Body body → (wait room : Bool) → message.wait ≡ wait
-          → Ends plan said before own (carried Some (commands_by body wait room) step)
+          → Ends plan start said before own (carried Some (commands_by body wait room) step)
       loud body is true true waits = reply-at message body own step asks holds (may body is waits)
       loud body is true false waits =
-          noted-so plan said before own (Happening.Full (sent.reply_name message)) step
-          (holds-as plan said own (so_far plan said before step)
-          (Happening.Full (sent.reply_name message) ∷ so_far plan said before step) holds
-          (quiet-note (Happening.Full (sent.reply_name message)) tt (so_far plan said before step)))
+          noted-so plan start said before own (Happening.Full (sent.reply_name message)) step
+          (holds-as plan start said own (so_far plan start said before step)
+          (Happening.Full (sent.reply_name message) ∷ so_far plan start said before step) holds
+          (quiet-note (Happening.Full (sent.reply_name message)) tt (so_far plan start said before step)))
       loud body is false room waits = holds
 
-      by_text : (t : Text) → text ≡ t → Ends plan said before own (all_done Some (sent.answer_duties t message) step)
+      by_text : (t : Text) → text ≡ t → Ends plan start said before own
+          (all_done Some (sent.answer_duties t message) step)
       by_text (answer.Body body) is =
-          either-then (λ next. Holds plan said own next.next.drawn (so_far plan said before next))
-          (λ next. AreSettled plan (so_far plan said before next))
-          (λ next. Holds plan said own next.next.drawn (so_far plan said before next))
+          either-then (λ next. Holds plan start said own next.next.drawn (so_far plan start said before next))
+          (λ next. AreSettled plan start (so_far plan start said before next))
+          (λ next. Holds plan start said own next.next.drawn (so_far plan start said before next))
           (carried Some (sent.body_duty body message step.next) step) (all_done Some [])
           (loud body is message.wait (sent.has_room step.next) refl) (λ next at. at)
       by_text answer.TooLong is =

@@ -39,7 +39,7 @@ use Rattle.message_end.specs.declared.unsent.Unsent.{Unsent}
 use Rattle.tool_reports.specs.Reported.{Happened, IsKeptReport, count_of_events, events_in}
 use Rattle.tool_step.specs.Sent as sent
 use Rattle.tool_reports.proofs.PlainTurns.{AreQuietLines, IsPlain, booked-stays, ungranted}
-use Rattle.tool_reports.proofs.QuietNotes.{AreSettled, IsAsBefore, IsQuietNote, one, one-behind, quiet-note, settled-more}
+use Rattle.tool_reports.proofs.QuietNotes.{AreSettled, IsAsBefore, IsQuietNote, one, one-behind, quiet-note, settled-more, still-rests}
 use Rattle.tool_reports.proofs.SilentCommands.{IsSilent, AreSilent, IsQuietly, carried-quietly, done-quietly}
 use Rattle.message_end.proofs.Parts.{OnEither, either-then, either-less}
 use Rattle.tool_law.proofs.CoreSteps.{CoreStep}
@@ -57,36 +57,36 @@ Any notes = Unit {0}
 pub any-lasts : (old new : List Happening) → IsAsBefore old new → Any old → Any new
 any-lasts old new same any = tt
 
-module _ (plan : EquipmentPlan) (said : List ToolCommand) (before : List Happening) where
+module _ (plan : EquipmentPlan) (start : List Happening) (said : List ToolCommand) (before : List Happening) where
   abbrev pub so_far : CoreStep → List Happening
   so_far step = noted_behind step.notes before
 
   -- it holds still, or the numbers are spent and all that was noted until then is right
   abbrev pub Ends : OwnView → Went (EndView Kind) Happening → Type 0
-  Ends own went = OnEither (λ step. Holds plan said own step.next.drawn (so_far step))
-      (λ step. AreSettled plan (so_far step)) went
+  Ends own went = OnEither (λ step. Holds plan start said own step.next.drawn (so_far step))
+      (λ step. AreSettled plan start (so_far step)) went
 
   abbrev pub KeepsAt : OwnView → ToolTurn → CoreStep → Type 0
-  KeepsAt own turn step = Holds plan said own step.next.drawn (so_far step)
+  KeepsAt own turn step = Holds plan start said own step.next.drawn (so_far step)
       → Ends turn.own (all_done Some turn.duties step)
 
   abbrev pub Keeps : OwnView → ToolTurn → Type 0
   Keeps own turn = (step : CoreStep) → KeepsAt own turn step
 
   pub noted-so : (own : OwnView) (what : Happening) (step : CoreStep)
-      → Holds plan said own step.next.drawn (what ∷ so_far step)
-      → Holds plan said own (noted Some what step).next.drawn (so_far (noted Some what step))
+      → Holds plan start said own step.next.drawn (what ∷ so_far step)
+      → Holds plan start said own (noted Some what step).next.drawn (so_far (noted Some what step))
   noted-so own what step holds =
-      subst (λ (notes : List Happening). Holds plan said own step.next.drawn notes)
+      subst (λ (notes : List Happening). Holds plan start said own step.next.drawn notes)
       (sym (one-behind step.notes what before)) holds
 
   pub quietly-holds :
       (own : OwnView) (step next : CoreStep) → IsAsBefore (so_far step) (so_far next)
-      → next.next.drawn ≡ step.next.drawn → Holds plan said own step.next.drawn (so_far step)
-      → Holds plan said own next.next.drawn (so_far next)
+      → next.next.drawn ≡ step.next.drawn → Holds plan start said own step.next.drawn (so_far step)
+      → Holds plan start said own next.next.drawn (so_far next)
   quietly-holds own step next same drawn holds =
-      subst (λ (d : Option ℕ). Holds plan said own d (so_far next)) (sym drawn)
-      (holds-as plan said own (so_far step) (so_far next) holds same)
+      subst (λ (d : Option ℕ). Holds plan start said own d (so_far next)) (sym drawn)
+      (holds-as plan start said own (so_far step) (so_far next) holds same)
 
   pub plain-at :
       (Asks : Option Title → Type 0) (none : Asks None) (Fact : List Happening → Type 0)
@@ -95,13 +95,14 @@ module _ (plan : EquipmentPlan) (said : List ToolCommand) (before : List Happeni
       → IsPlain Asks none Fact lasts own turn → Asks step.next.asked → Fact (so_far step) → KeepsAt own turn step
   plain-at Asks none Fact lasts own turn step plain asks fact holds =
       either-less (IsQuietly Asks none Fact lasts before step) (IsQuietly Asks none Fact lasts before step)
-      (λ next. Holds plan said turn.own next.next.drawn (so_far next)) (λ next. AreSettled plan (so_far next))
+      (λ next. Holds plan start said turn.own next.next.drawn (so_far next))
+      (λ next. AreSettled plan start (so_far next))
       (all_done Some turn.duties step)
       (done-quietly Asks none Fact lasts before turn.duties step plain.duties asks fact)
       (λ next quiet.
-      holds-less plan said own turn.own (so_far next) (quietly-holds own step next quiet.notes quiet.drawn holds)
+      holds-less plan start said own turn.own (so_far next) (quietly-holds own step next quiet.notes quiet.drawn holds)
       plain.keeps)
-      (λ next quiet. quiet.notes.keeps plan holds.settled)
+      (λ next quiet. quiet.notes.keeps plan start holds.settled)
 
   pub plain : (own : OwnView) (turn : ToolTurn) → IsPlain Free tt Any any-lasts own turn → Keeps own turn
   plain own turn is step holds = plain-at Free tt Any any-lasts own turn step is tt tt holds
@@ -111,25 +112,28 @@ module _ (plan : EquipmentPlan) (said : List ToolCommand) (before : List Happeni
       (lead : Command Kind) (own : OwnView) (turn : ToolTurn) (step : CoreStep) → IsSilent Free tt Any any-lasts lead
       → Keeps own turn → KeepsAt own (led_turn lead turn) step
   led-at lead own turn step silent keeps holds =
-      either-then (λ next. Holds plan said own next.next.drawn (so_far next)) (λ next. AreSettled plan (so_far next))
-      (λ next. Holds plan said turn.own next.next.drawn (so_far next)) (carried Some (lead ∷ []) step)
+      either-then (λ next. Holds plan start said own next.next.drawn (so_far next))
+      (λ next. AreSettled plan start (so_far next))
+      (λ next. Holds plan start said turn.own next.next.drawn (so_far next)) (carried Some (lead ∷ []) step)
       (all_done Some turn.duties)
       (either-less (IsQuietly Free tt Any any-lasts before step) (IsQuietly Free tt Any any-lasts before step)
-      (λ next. Holds plan said own next.next.drawn (so_far next)) (λ next. AreSettled plan (so_far next))
+      (λ next. Holds plan start said own next.next.drawn (so_far next)) (λ next. AreSettled plan start (so_far next))
       (carried Some (lead ∷ []) step)
       (carried-quietly Free tt Any any-lasts before (lead ∷ []) step (silent, tt) tt tt)
       (λ next quiet. quietly-holds own step next quiet.notes quiet.drawn holds)
-      (λ next quiet. quiet.notes.keeps plan holds.settled))
+      (λ next quiet. quiet.notes.keeps plan start holds.settled))
       (λ next at. keeps next at)
 
   -- an S6F11 goes, if there is room and a number for it
   pub report-at :
-      (own : OwnView) (text : List ℕ) (step : CoreStep) → Holds plan said own step.next.drawn (so_far step)
+      (own : OwnView) (text : List ℕ) (step : CoreStep) → Holds plan start said own step.next.drawn (so_far step)
       → HasSpare plan own (so_far step) text
       → Ends own (carried Some (Primary (sent.live_report (event_report text)) ∷ []) step)
   report-at own text step holds spare =
-      either-then (λ next. Holds plan said own next.next.drawn (so_far next)) (λ next. AreSettled plan (so_far next))
-      (λ next. Holds plan said own next.next.drawn (so_far next)) (carry Some (Primary unsent) step) (carried Some [])
+      either-then (λ next. Holds plan start said own next.next.drawn (so_far next))
+      (λ next. AreSettled plan start (so_far next))
+      (λ next. Holds plan start said own next.next.drawn (so_far next)) (carry Some (Primary unsent) step)
+      (carried Some [])
       (go (is_crowded_out true step.next)) (λ next at. at)
     where
       unsent : Unsent Kind
@@ -138,9 +142,9 @@ module _ (plan : EquipmentPlan) (said : List ToolCommand) (before : List Happeni
       drawn : (number : Option ℕ) → Ends own (draws number (sends Some unsent) step)
       drawn None = holds.settled
       drawn (Some number) =
-          subst (λ (notes : List Happening). Holds plan said own step.next.drawn notes)
+          subst (λ (notes : List Happening). Holds plan start said own step.next.drawn notes)
           (sym (one-behind step.notes (Happening.Sent (primary_of unsent number)) before))
-          (report-sent plan said own (so_far step) text number holds spare)
+          (report-sent plan start said own (so_far step) text number holds spare)
 
       go : (crowded : Bool)
           → Ends own
@@ -148,7 +152,7 @@ module _ (plan : EquipmentPlan) (said : List ToolCommand) (before : List Happeni
           else draws (next_number step.next.numbers) (sends Some unsent) step)
       go true =
           noted-so own (Happening.Full (unsent_name unsent)) step
-          (holds-as plan said own (so_far step) (Happening.Full (unsent_name unsent) ∷ so_far step) holds
+          (holds-as plan start said own (so_far step) (Happening.Full (unsent_name unsent) ∷ so_far step) holds
           (quiet-note (Happening.Full (unsent_name unsent)) tt (so_far step)))
       go false = drawn (next_number step.next.numbers)
 
@@ -160,16 +164,17 @@ module _ (plan : EquipmentPlan) (said : List ToolCommand) (before : List Happeni
 
   pub reports-at :
       (own : OwnView) (text : List ℕ) (e : EndView Kind) (step : CoreStep)
-      → Holds plan said own step.next.drawn (so_far step) → HasSpare plan own (so_far step) text
+      → Holds plan start said own step.next.drawn (so_far step) → HasSpare plan own (so_far step) text
       → Ends (sent.live_own (event_report text) own e)
       (all_done Some (sent.going_turn (event_report text) own e).duties step)
   reports-at own text e step holds spare =
-      either-then (λ next. Holds plan said kept next.next.drawn (so_far next)) (λ next. AreSettled plan (so_far next))
-      (λ next. Holds plan said kept next.next.drawn (so_far next))
+      either-then (λ next. Holds plan start said kept next.next.drawn (so_far next))
+      (λ next. AreSettled plan start (so_far next))
+      (λ next. Holds plan start said kept next.next.drawn (so_far next))
       (carried Some (Primary (sent.live_report (event_report text)) ∷ []) step)
       (all_done Some [])
       (report-at kept text step
-      (with-live plan said own (so_far step) text (is_crowded_out true e) (next_number e.numbers) holds
+      (with-live plan start said own (so_far step) text (is_crowded_out true e) (next_number e.numbers) holds
       (some-event own text (so_far step) spare))
       (spare-kept (is_crowded_out true e) (next_number e.numbers))) (λ next at. at)
     where
@@ -187,8 +192,8 @@ module _ (plan : EquipmentPlan) (said : List ToolCommand) (before : List Happeni
       → Keeps own (granted_turn (waiting_report system own) (without_grant system own) e)
   granted-keeps system own e step holds = go (find (is_granted_by system) own.for_grant) refl
     where
-      less : Holds plan said (without_grant system own) step.next.drawn (so_far step)
-      less = holds-less plan said own (without_grant system own) (so_far step) holds (ungranted own system)
+      less : Holds plan start said (without_grant system own) step.next.drawn (so_far step)
+      less = holds-less plan start said own (without_grant system own) (so_far step) holds (ungranted own system)
 
       turn_by : Option GrantView → ToolTurn
       turn_by found =
@@ -199,24 +204,24 @@ module _ (plan : EquipmentPlan) (said : List ToolCommand) (before : List Happeni
       go None is = less
       go (Some found) is =
           reports-at (without_grant system own) found.body e step less
-          (granted-spare plan said own system found (so_far step) holds is)
+          (granted-spare plan start said own system found (so_far step) holds is)
 
   -- commands of which nothing is said
   pub silent-at :
       (own : OwnView) (commands : ToolCommands) (step : CoreStep) → AreSilent Free tt Any any-lasts commands
-      → Holds plan said own step.next.drawn (so_far step) → Ends own (carried Some commands step)
+      → Holds plan start said own step.next.drawn (so_far step) → Ends own (carried Some commands step)
   silent-at own commands step silent holds =
       either-less (IsQuietly Free tt Any any-lasts before step) (IsQuietly Free tt Any any-lasts before step)
-      (λ next. Holds plan said own next.next.drawn (so_far next)) (λ next. AreSettled plan (so_far next))
+      (λ next. Holds plan start said own next.next.drawn (so_far next)) (λ next. AreSettled plan start (so_far next))
       (carried Some commands step) (carried-quietly Free tt Any any-lasts before commands step silent tt tt)
       (λ next quiet. quietly-holds own step next quiet.notes quiet.drawn holds)
-      (λ next quiet. quiet.notes.keeps plan holds.settled)
+      (λ next quiet. quiet.notes.keeps plan start holds.settled)
 
   -- ---- messages that are put
 
   -- an S6F11 that may be put: it is of an event
   pub kept-waiting :
-      (own : OwnView) (drawn : Option ℕ) (notes : List Happening) (system : ℕ) → Holds plan said own drawn notes
+      (own : OwnView) (drawn : Option ℕ) (notes : List Happening) (system : ℕ) → Holds plan start said own drawn notes
       → IfSome (waiting_report system own) (λ message. IsKeptReport plan message notes)
   kept-waiting own drawn notes system holds = go (find (is_granted_by system) own.for_grant) refl
     where
@@ -231,7 +236,7 @@ module _ (plan : EquipmentPlan) (said : List ToolCommand) (before : List Happeni
           omega (arith, all, most, same))
 
   pub kept-live :
-      (own : OwnView) (drawn : Option ℕ) (notes : List Happening) (system : ℕ) → Holds plan said own drawn notes
+      (own : OwnView) (drawn : Option ℕ) (notes : List Happening) (system : ℕ) → Holds plan start said own drawn notes
       → IfSome (sent_report system own) (λ message. IsKeptReport plan message notes)
   kept-live own drawn notes system holds = go (find (is_report_of system) own.reports) refl
     where
@@ -263,20 +268,23 @@ module _ (plan : EquipmentPlan) (said : List ToolCommand) (before : List Happeni
 
   said-note :
       (own : OwnView) (drawn : Option ℕ) (what : Happening) (notes : List Happening) → IsSaid notes what
-      → Holds plan said own drawn notes → Holds plan said own drawn (what ∷ notes)
+      → Holds plan start said own drawn notes → Holds plan start said own drawn (what ∷ notes)
   said-note own drawn what notes (inl quiet) holds =
-      holds-as plan said own notes (what ∷ notes) holds (quiet-note what quiet notes)
+      holds-as plan start said own notes (what ∷ notes) holds (quiet-note what quiet notes)
   said-note own drawn what notes (inr (number, message, same, kept)) holds =
-      subst (λ (w : Happening). Holds plan said own drawn (w ∷ notes)) (sym same)
+      subst (λ (w : Happening). Holds plan start said own drawn (w ∷ notes)) (sym same)
       (record {
         plan_is = holds.plan_is;
+        kept_is = holds.kept_is;
         tables_are = holds.tables_are;
         events_are = holds.events_are;
         commanded = holds.commanded;
         waits = holds.waits;
         live = holds.live;
         tried = holds.tried;
-        settled = settled-more plan (Happening.Storing number message) notes refl kept refl holds.settled;
+        settled =
+            settled-more plan start (Happening.Storing number message) notes tt refl kept refl
+            (still-rests plan (Happening.Storing number message) notes refl) holds.settled;
       })
 
   said-events : (what : Happening) (notes : List Happening) → IsSaid notes what
@@ -306,7 +314,7 @@ module _ (plan : EquipmentPlan) (said : List ToolCommand) (before : List Happeni
 
   pub lines-at :
       (own : OwnView) (lines : List Happening) (step : CoreStep) → AreSaid (so_far step) lines
-      → Holds plan said own step.next.drawn (so_far step) → Ends own (carried Some (lines_commands lines) step)
+      → Holds plan start said own step.next.drawn (so_far step) → Ends own (carried Some (lines_commands lines) step)
   lines-at own [] step are holds = holds
   lines-at own (what ∷ lines) step are holds =
       lines-at own lines (noted Some what step)
@@ -362,7 +370,7 @@ module _ (plan : EquipmentPlan) (said : List ToolCommand) (before : List Happeni
 
   -- the report of an event is put
   pub stored-keeps :
-      (own : OwnView) (text : List ℕ) (step : CoreStep) → Holds plan said own step.next.drawn (so_far step)
+      (own : OwnView) (text : List ℕ) (step : CoreStep) → Holds plan start said own step.next.drawn (so_far step)
       → HasSpare plan own (so_far step) text
       → Ends (stored_turn (event_report text) own).own (all_done Some (stored_turn (event_report text) own).duties step)
   stored-keeps own text step holds spare =
@@ -377,12 +385,13 @@ module _ (plan : EquipmentPlan) (said : List ToolCommand) (before : List Happeni
           → Ends (turn_by found).own (all_done Some (turn_by found).duties step)
       go None are = holds.settled
       go (Some booked) are =
-          either-then (λ next. Holds plan said kept next.next.drawn (so_far next))
-          (λ next. AreSettled plan (so_far next))
-          (λ next. Holds plan said kept next.next.drawn (so_far next)) (carried Some (lines_commands booked.lines) step)
+          either-then (λ next. Holds plan start said kept next.next.drawn (so_far next))
+          (λ next. AreSettled plan start (so_far next))
+          (λ next. Holds plan start said kept next.next.drawn (so_far next))
+          (carried Some (lines_commands booked.lines) step)
           (all_done Some [])
           (lines-at kept booked.lines step are
-          (holds-less plan said own kept (so_far step) holds (booked-stays own booked.next)))
+          (holds-less plan start said own kept (so_far step) holds (booked-stays own booked.next)))
           (λ next at. at)
         where
           kept : OwnView
@@ -393,7 +402,7 @@ module _ (plan : EquipmentPlan) (said : List ToolCommand) (before : List Happeni
   -- what is put is of events
   pub all-kept :
       (own left : OwnView) (drawn : Option ℕ) (notes : List Happening) (spools : Bool) (begun : List (Begun Kind))
-      → left.for_grant ≡ own.for_grant → left.reports ≡ own.reports → Holds plan said own drawn notes
+      → left.for_grant ≡ own.for_grant → left.reports ≡ own.reports → Holds plan start said own drawn notes
       → All (λ message. IsKeptReport plan message notes) (filter_map (states.stored_of spools left) begun)
   all-kept own left drawn notes spools [] grants reports holds = All-nil (λ (m : Spooled). IsKeptReport plan m notes)
   all-kept own left drawn notes spools (first ∷ begun) grants reports holds =
@@ -455,11 +464,14 @@ module _ (plan : EquipmentPlan) (said : List ToolCommand) (before : List Happeni
   pub stores-at :
       (own : OwnView) (stores : Stores) (more : ToolCommands) (step : CoreStep)
       → AreSaid (so_far step) stores.lines → AreSilent Free tt Any any-lasts more
-      → Holds plan said own step.next.drawn (so_far step) → Ends own (carried Some (stores_commands stores more) step)
+      → Holds plan start said own step.next.drawn (so_far step) → Ends own
+      (carried Some (stores_commands stores more) step)
   stores-at own stores more step are silent holds =
       subst (Ends own) (sym (carried_append Some (lines_commands stores.lines) last step))
-      (either-then (λ next. Holds plan said own next.next.drawn (so_far next)) (λ next. AreSettled plan (so_far next))
-      (λ next. Holds plan said own next.next.drawn (so_far next)) (carried Some (lines_commands stores.lines) step)
+      (either-then (λ next. Holds plan start said own next.next.drawn (so_far next))
+      (λ next. AreSettled plan start (so_far next))
+      (λ next. Holds plan start said own next.next.drawn (so_far next))
+      (carried Some (lines_commands stores.lines) step)
       (carried Some last) (lines-at own stores.lines step are holds)
       (λ next at. silent-at own last next (go stores.is_spent) at))
     where

@@ -20,9 +20,9 @@ use Rattle.equipment_tables.specs.Tables.{TablesState, asked_after}
 use Rattle.equipment_tables.proofs.Lines.{lines_hold}
 use Rattle.tool_step.specs.Messages.{is_establish_request}
 use Rattle.tool_step.specs.Own.{OwnView, with_tables}
-use Rattle.tool_reports.specs.Reported.{past_in, reports_in}
+use Rattle.tool_reports.specs.Reported.{is_no_space, past_in, reports_in}
 use Rattle.tool_reports.proofs.HeldReports.{Any}
-use Rattle.tool_reports.proofs.QuietNotes.{IsAsBefore, IsNone, never-live, none-of, none-sent, IsQuietNote, settled-more}
+use Rattle.tool_reports.proofs.QuietNotes.{IsAsBefore, IsNone, never-live, none-of, none-sent, IsQuietNote, settled-more, still-rests}
 use Rattle.tool_law.proofs.CommandWalks.{AllAre}
 use Rattle.tool_reports.proofs.SilentCommands.{IsSilent}
 
@@ -68,14 +68,15 @@ newest-lasts message old new same fact = (fact.0, same.past ∙ fact.1)
 pub may-behind : (message : Message) → IsOther message → MayReply (IsNewest message) message
 may-behind message other body notes waits fact = record {
   past = refl;
+  kept = λ held. refl;
   events = refl;
   reports =
       ap (λ (b : Bool). if b then out.body ∷ reports_in notes else reports_in notes)
       (never-live out notes none.s6f11);
   next = refl;
   tries = refl;
-  keeps = λ plan so.
-      settled-more plan (Happening.Sent out) notes refl
+  keeps = λ plan start so.
+      settled-more plan start (Happening.Sent out) notes tt refl
       (record {
         s6f11 = λ is. let e = never-live out notes none.s6f11 in absurd (cc);
         s6f16 = λ is. let e = none.s6f16 in absurd (cc);
@@ -91,7 +92,7 @@ may-behind message other body notes waits fact = record {
           system = refl;
         };
       })
-      refl so;
+      refl (still-rests plan (Happening.Sent out) notes refl) so;
 }
   where
     out : Message
@@ -115,12 +116,14 @@ may-establish message is body notes waits any =
         (ap (λ (s : ℕ). is_report s (reply_function message.function)) (eqb-true message.stream 1 ea)))
         (ap
         (λ (s : ℕ).
-        (not (reply_function message.function % 2 == 1) && not (reply_function message.function == 0))
-        && not ((s == 1) && (reply_function message.function == 14))) (eqb-true message.stream 1 ea)
+        ((not (reply_function message.function % 2 == 1) && not (reply_function message.function == 0))
+        && not ((s == 1) && (reply_function message.function == 14))) && not (is_no_space out))
+        (eqb-true message.stream 1 ea)
         ∙ ap
         (λ (f : ℕ).
-        (not (reply_function f % 2 == 1) && not (reply_function f == 0))
-        && not ((1 == 1) && (reply_function f == 14))) (eqb-true message.function 13 eb)) notes
+        ((not (reply_function f % 2 == 1) && not (reply_function f == 0))
+        && not ((1 == 1) && (reply_function f == 14))) && not (is_no_space out))
+        (eqb-true message.function 13 eb)) notes
     go true false ea eb all = absurd (cc)
     go false b ea eb all = absurd (cc)
 
@@ -136,7 +139,8 @@ pub record IsNamed (p : Primary) (message : Message) : Type 0 where
   pub stream : message.stream ≡ (stream_and_function p).0
   pub function : message.function ≡ (stream_and_function p).1
 
-pub named : (p : Primary) (message : Message) → primary_with message.stream message.function ≡ Some p → IsNamed p message
+pub named : (p : Primary) (message : Message) → primary_with message.stream message.function ≡ Some p
+    → IsNamed p message
 named p message is =
     both ((stream_and_function p).0 == message.stream) ((stream_and_function p).1 == message.function) refl refl
     (found-in (has_function message.stream message.function) primaries p is).1

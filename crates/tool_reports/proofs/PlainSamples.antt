@@ -25,7 +25,7 @@ module _
   pub sampling-plain : (now : ℕ) (own : OwnView) (e : EndView Kind)
       → IsPlain Asks none Fact lasts own (sampling now own e)
   sampling-plain now own e =
-      nothing-of own (sampling now own e).own (stays own (sampling now own e).own refl refl refl refl refl)
+      nothing-of own (sampling now own e).own (stays own (sampling now own e).own refl refl refl refl refl refl)
 
   -- of an own that keeps no more
   module _ (own other : OwnView) (less : IsNoMore own other) where
@@ -54,6 +54,7 @@ module _
         go false None = less
         go false (Some system) = record {
           plan_is = less.plan_is;
+          kept_is = less.kept_is;
           tables_are = less.tables_are;
           events_are = less.events_are;
           fewer = less.fewer;
@@ -105,4 +106,4 @@ module _
       go [] = nothing-of own own (itself own)
       go (item ∷ items) =
           sampled-plain own (with_made items own)
-          (stays own (with_made items own) refl refl refl refl refl) item e
+          (stays own (with_made items own) refl refl refl refl refl refl) item e

@@ -5,6 +5,7 @@ use Rattle.gem_shapes.proofs.ReportPrimaries.{is_report}
 use Rattle.gem_states.specs.declared.comms.CommsIn.{CommsIn}
 use Rattle.gem_states.specs.declared.control.ControlIn.{ControlIn}
 use Rattle.message_flow.proofs.Firsts.{removed, without-first}
+use Rattle.setup_store.specs.Entries.{Entry}
 use Rattle.trace_log.specs.declared.names.Title.{Title}
 use Rattle.trace_log.specs.Log.{Happening}
 use Rattle.trace_log.specs.Names.{Spooled}
@@ -15,6 +16,7 @@ use Rattle.message_end.proofs.Lists.{has-less, has-snoc}
 use Rattle.equipment_tables.specs.declared.answers.Answer.{Answer as Text}
 use Rattle.tool_step.specs.Grants.{GrantView}
 use Rattle.tool_step.specs.declared.kind.Kind.{Kind}
+use Rattle.tool_step.specs.declared.owed.Owed.{Owed}
 use Rattle.tool_step.specs.Live.{ReportView}
 use Rattle.tool_step.specs.Own.{OwnView, ToolTurn, is_granted_by, is_report_of, with_comms, with_ledger, with_report, without_grant, without_report, with_tried}
 use Rattle.tool_reports.specs.Reported.{is_event_report}
@@ -36,9 +38,17 @@ use Rattle.tool_reports.proofs.SilentCommands.{AreSilent, IsSilent, common-silen
 abbrev pub count_waiting : List ℕ → List GrantView → ℕ
 count_waiting body waiting = length (filter (λ one. bytes_eq body one.body) waiting)
 
+-- what it asks of an object outside, and the setup that it keeps; and where it asks nothing
+abbrev pub kept_of : OwnView → Option Owed × Option (List Entry)
+kept_of own = (own.owed, own.setup)
+
+abbrev pub owing_none : Option (List Entry) → Option Owed × Option (List Entry)
+owing_none setup = (None, setup)
+
 -- the same is kept, with no more S6F11 that wait, or were sent
 pub record IsNoMore (own other : OwnView) : Type 0 where
   pub plan_is : other.plan ≡ own.plan
+  pub kept_is : kept_of other ≡ kept_of own
   pub tables_are : other.tables ≡ own.tables
   pub events_are : other.events ≡ own.events
   pub fewer : (body : List ℕ) → count_waiting body other.for_grant ≤ count_waiting body own.for_grant
@@ -69,6 +79,7 @@ fewer-without test (first ∷ waiting) body = go (test first) (fewer-without tes
 pub ungranted : (own : OwnView) (system : ℕ) → IsNoMore own (without_grant system own)
 ungranted own system = record {
   plan_is = refl;
+  kept_is = refl;
   tables_are = refl;
   events_are = refl;
   fewer = λ body.
@@ -81,6 +92,7 @@ ungranted own system = record {
 pub unreported : (own : OwnView) (system : ℕ) → IsNoMore own (without_report system own)
 unreported own system = record {
   plan_is = refl;
+  kept_is = refl;
   tables_are = refl;
   events_are = refl;
   fewer = λ body. at-most (count_waiting body own.for_grant);
@@ -94,6 +106,7 @@ pub reported : (own : OwnView) (system : ℕ) (message : Spooled) → is_event_r
     → IsNoMore own (with_report system message own)
 reported own system message none = record {
   plan_is = refl;
+  kept_is = refl;
   tables_are = refl;
   events_are = refl;
   fewer = λ body. at-most (count_waiting body own.for_grant);
@@ -107,10 +120,11 @@ reported own system message none = record {
         let other = ap (λ (r : ReportView). is_event_report r.message) same in absurd (cc)
 
 -- the same own but for its states, its ledger and its traces
-pub stays : (own other : OwnView) → other.plan ≡ own.plan → other.tables ≡ own.tables → other.events ≡ own.events
-    → other.for_grant ≡ own.for_grant → other.reports ≡ own.reports → IsNoMore own other
-stays own other plan tables events waiting reports = record {
+pub stays : (own other : OwnView) → other.plan ≡ own.plan → kept_of other ≡ kept_of own → other.tables ≡ own.tables
+    → other.events ≡ own.events → other.for_grant ≡ own.for_grant → other.reports ≡ own.reports → IsNoMore own other
+stays own other plan kept tables events waiting reports = record {
   plan_is = plan;
+  kept_is = kept;
   tables_are = tables;
   events_are = events;
   fewer = λ body.
@@ -120,21 +134,22 @@ stays own other plan tables events waiting reports = record {
 }
 
 pub itself : (own : OwnView) → IsNoMore own own
-itself own = stays own own refl refl refl refl refl
+itself own = stays own own refl refl refl refl refl refl
 
 pub booked-stays : (own : OwnView) (ledger : LedgerView) → IsNoMore own (with_ledger ledger own)
-booked-stays own ledger = stays own (with_ledger ledger own) refl refl refl refl refl
+booked-stays own ledger = stays own (with_ledger ledger own) refl refl refl refl refl refl
 
 pub tried-stays : (own : OwnView) (ledger : LedgerView) (system : ℕ)
     → IsNoMore own (with_tried system (with_ledger ledger own))
-tried-stays own ledger system = stays own (with_tried system (with_ledger ledger own)) refl refl refl refl refl
+tried-stays own ledger system = stays own (with_tried system (with_ledger ledger own)) refl refl refl refl refl refl
 
 pub states-stay : KeepsStates IsNoMore
 states-stay = record {
   itself = λ own. itself own;
-  comms = λ own next. stays own (with_comms next own) refl refl refl refl refl;
+  comms = λ own next. stays own (with_comms next own) refl refl refl refl refl refl;
   control = λ own other next less. record {
     plan_is = less.plan_is;
+    kept_is = less.kept_is;
     tables_are = less.tables_are;
     events_are = less.events_are;
     fewer = less.fewer;

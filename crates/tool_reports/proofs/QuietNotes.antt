@@ -1,14 +1,20 @@
 -- Notes of which nothing is said where reports are spoken of, and what follows behind others.
-use Rattle.std.proofs.Common.{not, nat_eq, ◌≡◌, refl, sym, ap, subst, ◌∙◌, inl, inr, ◌⊎◌, ◌<◌, ◌+◌, arith, Bool, true, false, ℕ, ◌==◌, ◌&&◌, ◌||◌, List, [], ◌∷◌, ◌++◌, length, Some, None, cond, if◌then◌else◌}
+use Rattle.std.proofs.Common.{not, nat_eq, ◌≡◌, refl, sym, ap, subst, ◌∙◌, inl, inr, ◌⊎◌, ◌<◌, ◌+◌, arith, Bool, true, false, ℕ, ◌==◌, ◌&&◌, ◌||◌, List, [], ◌∷◌, ◌++◌, length, Option, Some, None, cond, if◌then◌else◌}
 use Rattle.std.specs.List.{list_any}
-use Rattle.std.specs.Prelude.{filter}
+use Rattle.std.specs.Prelude.{drop, filter}
 use Rattle.gem_shapes.proofs.ReportPrimaries.{is_report}
 use Rattle.message_flow.specs.declared.message.Message.{Message}
+use Rattle.setup_law.proofs.Notes.{Rests, other-rests}
+use Rattle.setup_law.specs.Setup.{Change, KeepsSetup, change_of, list_behind, list_in}
+use Rattle.setup_law.specs.Setup.Change.{Other}
+use Rattle.setup_store.specs.Entries.{Entry}
 use Rattle.trace_log.specs.Log.{Happening}
+use Rattle.trace_log.specs.Names.{KeptPrimary}
 use Rattle.message_end.specs.Course.{noted_behind}
 use Rattle.message_end.specs.Own.{Has}
 use Rattle.equipment_tables.specs.declared.plan.EquipmentPlan.{EquipmentPlan}
-use Rattle.tool_reports.specs.Reported.{HoldsItsValues, IsReported, Reported, due_behind, events_in, is_answer, is_brought, is_event_report, is_live, is_of, next_dataid, past_in, reports_in, tries_in}
+use Rattle.equipment_tables.specs.Setup.{accepts_primary, asked_of}
+use Rattle.tool_reports.specs.Reported.{HoldsItsValues, IsBrought, IsInPlace, IsReported, Reported, due_behind, events_in, is_answer, is_brought, is_event_report, is_live, is_of, next_dataid, past_in, reports_in, tables_in, to_carry, tries_in}
 
 -- ---- the messages of which something is said
 
@@ -55,11 +61,42 @@ nothing-said plan message before none answer = record {
   reply = λ is. absurd (cc);
 }
 
+-- ---- notes of a setup
+
+-- one that no entry of a setup is carried out by
+abbrev pub IsNoEntry : Happening → Type 0
+IsNoEntry (Happening.Recorded entry) = ⊥
+IsNoEntry Happening.Refused = ⊥
+IsNoEntry _ = Unit {0}
+
+-- it is as its kind says
+pub as-said : (plan : EquipmentPlan) (what : Happening) (before : List Happening) → IsNoEntry what
+    → Reported plan (what ∷ before) → IsReported plan what before
+as-said plan what before unlike reported = go (to_carry before) reported.0
+  where
+    none : (entry : KeptPrimary) (accepted : Bool)
+        → IsNoEntry (if accepted then Happening.Recorded (asked_of entry) else Happening.Refused) → ⊥
+    none entry true unlike_one = unlike_one
+    none entry false unlike_one = unlike_one
+
+    go : (left : List KeptPrimary) → IsInPlace plan left what before → IsReported plan what before
+    go [] placed = placed.1
+    go (entry ∷ left) placed =
+        absurd (none entry (accepts_primary (tables_in plan before) entry) (subst IsNoEntry placed unlike))
+
 -- ---- quiet notes
+
+-- one that isn't of what a start finds of its setup
+abbrev pub IsNoSetup : Happening → Type 0
+IsNoSetup (Happening.Setup found) = ⊥
+IsNoSetup _ = Unit {0}
 
 -- nothing is read off such a note, and no command brings it
 abbrev pub IsQuietNote : Happening → Type 0
 IsQuietNote (Happening.EquipmentStarted found base) = ⊥
+IsQuietNote (Happening.Setup found) = ⊥
+IsQuietNote (Happening.Keeping primary) = ⊥
+IsQuietNote (Happening.Kept primary) = ⊥
 IsQuietNote (Happening.Set vid) = ⊥
 IsQuietNote (Happening.Event ceid dataid) = ⊥
 IsQuietNote (Happening.Alarm alid is_set) = ⊥
@@ -71,42 +108,102 @@ IsQuietNote (Happening.Sent message) =
     (is_report message.stream message.function ≡ false) × (is_answer message ≡ false)
 IsQuietNote _ = Unit {0}
 
--- each note is right, and no command still waits for the note that it brings
-pub record AreSettled (plan : EquipmentPlan) (notes : List Happening) : Type 0 where
+-- each note is right, no command still waits for the note that it brings, and no setup is left to be carried out
+pub record AreInPlace (plan : EquipmentPlan) (notes : List Happening) : Type 0 where
   pub reported : Reported plan notes
   pub none_due : due_behind plan notes ≡ None
+  pub none_left : to_carry notes ≡ []
+
+-- the law of the setup holds, with nothing due, and with no primary being kept
+abbrev pub AreResting : EquipmentPlan → Option (List Entry) → List Happening → Type 0
+AreResting plan held notes = Rests plan held (list_in held notes) notes
+
+-- so they are; and where the law of the setup holds up to what the newest start has found, over a file that held such a
+-- list before, it holds since
+pub record AreSettled (plan : EquipmentPlan) (start notes : List Happening) : Type 0 where
+  pub placed : AreInPlace plan notes
+  pub rests : (held : Option (List Entry)) → KeepsSetup plan held start → AreResting plan held notes
+
+-- a note that tells nothing of the setup
+pub still-rests :
+    (plan : EquipmentPlan) (what : Happening) (notes : List Happening) → change_of what ≡ Other
+    → (held : Option (List Entry)) → AreResting plan held notes → AreResting plan held (what ∷ notes)
+still-rests plan what notes other held at =
+    subst (λ (c : Change). Rests plan held (list_behind c (list_in held notes)) (what ∷ notes)) (sym other)
+    (other-rests plan held (list_in held notes) what notes other at)
+
+-- a note that is as its kind says, where no setup is left to be carried out
+pub in-place :
+    (plan : EquipmentPlan) (what : Happening) (notes : List Happening) → to_carry notes ≡ []
+    → IsBrought plan what notes → IsReported plan what notes → IsInPlace plan (to_carry notes) what notes
+in-place plan what notes none brought right =
+    subst (λ (left : List KeptPrimary). IsInPlace plan left what notes) (sym none) (brought, right)
+
+-- behind that none is left either, but by the note of a setup
+pub none-more : (what : Happening) (notes : List Happening) → IsNoSetup what → to_carry notes ≡ []
+    → to_carry (what ∷ notes) ≡ []
+none-more (Happening.Setup found) notes unlike none = absurd unlike
+none-more (Happening.Recorded entry) notes unlike none = ap (λ (left : List KeptPrimary). drop 1 left) none
+none-more Happening.Refused notes unlike none = ap (λ (left : List KeptPrimary). drop 1 left) none
+none-more what notes unlike none = refl
 
 -- a note more that no command brings, and which is none
-pub settled-more :
-    (plan : EquipmentPlan) (what : Happening) (notes : List Happening) → is_brought what ≡ false
-    → IsReported plan what notes → due_behind plan (what ∷ notes) ≡ None → AreSettled plan notes
-    → AreSettled plan (what ∷ notes)
-settled-more plan what notes other right none so = record {
-  reported = (ap (λ (b : Bool). if b then Some what else None) other ∙ sym so.none_due, right, so.reported);
+pub placed-more :
+    (plan : EquipmentPlan) (what : Happening) (notes : List Happening) → IsNoSetup what → is_brought what ≡ false
+    → IsReported plan what notes → due_behind plan (what ∷ notes) ≡ None → AreInPlace plan notes
+    → AreInPlace plan (what ∷ notes)
+placed-more plan what notes unlike other right none so = record {
+  reported = (
+    in-place plan what notes so.none_left
+        (ap (λ (b : Bool). if b then Some what else None) other ∙ sym so.none_due) right,
+    so.reported,
+  );
   none_due = none;
+  none_left = none-more what notes unlike so.none_left;
+}
+
+-- and leaves the setup at rest
+pub settled-more :
+    (plan : EquipmentPlan) (start : List Happening) (what : Happening) (notes : List Happening) → IsNoSetup what
+    → is_brought what ≡ false → IsReported plan what notes → due_behind plan (what ∷ notes) ≡ None
+    → ((held : Option (List Entry)) → AreResting plan held notes → AreResting plan held (what ∷ notes))
+    → AreSettled plan start notes → AreSettled plan start (what ∷ notes)
+settled-more plan start what notes unlike other right none rest so = record {
+  placed = placed-more plan what notes unlike other right none so.placed;
+  rests = λ held keeps. rest held (so.rests held keeps);
 }
 
 -- all that is read off the notes is as it was, and what was said of them is said still
 pub record IsAsBefore (old new : List Happening) : Type 0 where
   pub past : past_in new ≡ past_in old
+  pub kept : (held : Option (List Entry)) → list_in held new ≡ list_in held old
   pub events : events_in new ≡ events_in old
   pub reports : reports_in new ≡ reports_in old
   pub next : next_dataid new ≡ next_dataid old
   pub tries : tries_in new ≡ tries_in old
-  pub keeps : (plan : EquipmentPlan) → AreSettled plan old → AreSettled plan new
+  pub keeps : (plan : EquipmentPlan) (start : List Happening) → AreSettled plan start old → AreSettled plan start new
 
 pub as-it-was : (notes : List Happening) → IsAsBefore notes notes
 as-it-was notes =
-    record { past = refl; events = refl; reports = refl; next = refl; tries = refl; keeps = λ plan so. so }
+    record {
+      past = refl;
+      kept = λ held. refl;
+      events = refl;
+      reports = refl;
+      next = refl;
+      tries = refl;
+      keeps = λ plan start so. so;
+    }
 
 pub as-before-both : (one two three : List Happening) → IsAsBefore one two → IsAsBefore two three → IsAsBefore one three
 as-before-both one two three first second = record {
   past = second.past ∙ first.past;
+  kept = λ held. second.kept held ∙ first.kept held;
   events = second.events ∙ first.events;
   reports = second.reports ∙ first.reports;
   next = second.next ∙ first.next;
   tries = second.tries ∙ first.tries;
-  keeps = λ plan so. second.keeps plan (first.keeps plan so);
+  keeps = λ plan start so. second.keeps plan start (first.keeps plan start so);
 }
 
 -- a message of which nothing is said
@@ -114,46 +211,53 @@ pub none-sent : (message : Message) → IsNone message → is_answer message ≡
     → IsAsBefore notes (Happening.Sent message ∷ notes)
 none-sent message none answer notes = record {
   past = refl;
+  kept = λ held. refl;
   events = refl;
   reports =
       ap (λ (b : Bool). if b then message.body ∷ reports_in notes else reports_in notes)
       (never-live message notes none.s6f11);
   next = refl;
   tries = refl;
-  keeps = λ plan so.
-      settled-more plan (Happening.Sent message) notes refl (nothing-said plan message notes none answer) refl so;
+  keeps = λ plan start so.
+      settled-more plan start (Happening.Sent message) notes tt refl (nothing-said plan message notes none answer) refl
+      (still-rests plan (Happening.Sent message) notes refl) so;
 }
 
 -- a note of which nothing is said
 quietly :
-    (what : Happening) (notes : List Happening) → past_in (what ∷ notes) ≡ past_in notes
-    → events_in (what ∷ notes) ≡ events_in notes → reports_in (what ∷ notes) ≡ reports_in notes
+    (what : Happening) (notes : List Happening) → IsNoSetup what → past_in (what ∷ notes) ≡ past_in notes
+    → change_of what ≡ Other → events_in (what ∷ notes) ≡ events_in notes → reports_in (what ∷ notes) ≡ reports_in notes
     → next_dataid (what ∷ notes) ≡ next_dataid notes → tries_in (what ∷ notes) ≡ tries_in notes
     → is_brought what ≡ false
     → ((plan : EquipmentPlan) → IsReported plan what notes)
     → ((plan : EquipmentPlan) → due_behind plan (what ∷ notes) ≡ None) → IsAsBefore notes (what ∷ notes)
-quietly what notes past events reports next tries other right none = record {
+quietly what notes unlike past calm events reports next tries other right none = record {
   past = past;
+  kept = λ held. ap (λ (c : Change). list_behind c (list_in held notes)) calm;
   events = events;
   reports = reports;
   next = next;
   tries = tries;
-  keeps = λ plan so. settled-more plan what notes other (right plan) (none plan) so;
+  keeps = λ plan start so.
+      settled-more plan start what notes unlike other (right plan) (none plan) (still-rests plan what notes calm) so;
 }
 
 pub quiet-note : (what : Happening) → IsQuietNote what → (notes : List Happening) → IsAsBefore notes (what ∷ notes)
 quiet-note (Happening.EquipmentStarted found base) quiet notes = absurd quiet
+quiet-note (Happening.Setup found) quiet notes = absurd quiet
+quiet-note (Happening.Keeping primary) quiet notes = absurd quiet
+quiet-note (Happening.Kept primary) quiet notes = absurd quiet
 quiet-note (Happening.Sent message) quiet notes = none-sent message (none-of message quiet.0) quiet.1 notes
 quiet-note (Happening.Set vid) quiet notes = absurd quiet
 quiet-note (Happening.Event ceid dataid) quiet notes = absurd quiet
 quiet-note (Happening.Alarm alid set) quiet notes = absurd quiet
 quiet-note Happening.Refused quiet notes = absurd quiet
 quiet-note (Happening.Storing number message) quiet notes =
-    quietly (Happening.Storing number message) notes refl refl refl refl refl refl
+    quietly (Happening.Storing number message) notes tt refl refl refl refl refl refl refl
     (λ plan is. absurd (cc)) (λ plan. refl)
 quiet-note (Happening.Try number system) quiet notes = absurd quiet
 quiet-note (Happening.Recorded past) quiet notes = absurd quiet
-quiet-note what quiet notes = quietly what notes refl refl refl refl refl refl (λ plan. tt) (λ plan. refl)
+quiet-note what quiet notes = quietly what notes tt refl refl refl refl refl refl refl (λ plan. tt) (λ plan. refl)
 
 -- ---- notes behind notes
 

@@ -10,6 +10,9 @@ use Rattle.secs_items.specs.declared.encode_fault.EncodeFault.{EncodeFault}
 use Rattle.secs_items.specs.Encoding.{encode_fault}
 use Rattle.secs_items.specs.Spelling.{shortest_spelling}
 use Rattle.gem_reports.specs.Reporting.{is_enabled_in, is_planned}
+use Rattle.setup_law.proofs.Notes.{command-rests, refused-rests}
+use Rattle.setup_law.specs.Setup.{list_in}
+use Rattle.setup_store.specs.Entries.{Entry}
 use Rattle.trace_log.specs.declared.commands.ToolCommand.{ToolCommand}
 use Rattle.trace_log.specs.declared.commands.ToolCommand.TheVariants as tool
 use Rattle.trace_log.specs.Log.{Happening, Past}
@@ -21,25 +24,28 @@ use Rattle.equipment_tables.specs.Past.{tables_at}
 use Rattle.equipment_tables.specs.Tables.{TablesState}
 use Rattle.tool_step.specs.Grants.{GrantView}
 use Rattle.tool_step.specs.Live.{ReportView}
+use Rattle.tool_step.specs.declared.owed.Owed.{Owed}
 use Rattle.tool_step.specs.Own.{OwnView, event_report, is_granted_by, without_grant}
 use Rattle.message_end.specs.Own.{Has}
-use Rattle.tool_reports.specs.Reported.{Happened, IsOfEvent, IsReport, IsReported, brought_by, commands_in, count_of, count_of_events, due_behind, events_in, is_brought, is_event_report, is_live, is_reported_by, item_of, next_dataid, past_in, reports_in, tables_in, tries_in, was_enabled}
+use Rattle.tool_reports.specs.Reported.{Happened, IsOfEvent, IsReport, IsReported, brought_by, commands_in, count_of, count_of_events, due_behind, events_in, is_brought, is_event_report, is_live, is_reported_by, item_of, next_dataid, past_in, reports_in, tables_in, to_carry, tries_in, was_enabled}
 use Rattle.tool_step.specs.Sent as sent
 use Rattle.tool_step.specs.Tool.{with_event}
 use Rattle.message_end.proofs.Lists.{has-snoc}
-use Rattle.tool_reports.proofs.PlainTurns.{IsNoMore, count_waiting}
-use Rattle.tool_reports.proofs.QuietNotes.{AreSettled, IsAsBefore, counted, counted-last, one, settled-more, some-passes}
+use Rattle.tool_reports.proofs.PlainTurns.{IsNoMore, count_waiting, kept_of, owing_none}
+use Rattle.tool_reports.proofs.QuietNotes.{AreInPlace, AreResting, AreSettled, IsAsBefore, IsNoSetup, counted, counted-last, in-place, none-more, one, settled-more, some-passes, still-rests}
 
 -- how many S6F11 went out with a text, but out of the spool
 abbrev pub count_of_reports : List ℕ → List Happening → ℕ
 count_of_reports body notes = count_of body (reports_in notes)
 
--- what the equipment keeps is that of its notes, in which the tool has said this; there are events for all that it may
--- report still, and for each S6F11 that was sent and may be put into the spool; and the number that it has drawn by
--- itself is that of a try
-pub record Holds (plan : EquipmentPlan) (said : List ToolCommand) (own : OwnView) (drawn : Option ℕ)
+-- what the equipment keeps is that of its notes, in which the tool has said this since the start, and it owes nothing;
+-- there are events for all that it may report still, and for each S6F11 that was sent and may be put into the spool; and
+-- the number that it has drawn by itself is that of a try
+pub record Holds (plan : EquipmentPlan) (start : List Happening) (said : List ToolCommand) (own : OwnView)
+    (drawn : Option ℕ)
     (notes : List Happening) : Type 0 where
   pub plan_is : own.plan ≡ plan
+  pub kept_is : (held : Option (List Entry)) → kept_of own ≡ owing_none (list_in held notes)
   pub tables_are : own.tables ≡ tables_in plan notes
   pub events_are : own.events ≡ next_dataid notes
   pub commanded : commands_in (past_in notes) ≡ said
@@ -50,7 +56,14 @@ pub record Holds (plan : EquipmentPlan) (said : List ToolCommand) (own : OwnView
       (one : ReportView) → Has own.reports one → is_event_report one.message ≡ true
       → 0 < count_of_events plan one.message.body notes
   pub tried : (number : ℕ) → drawn ≡ Some number → Has (tries_in notes) number
-  pub settled : AreSettled plan notes
+  pub settled : AreSettled plan start notes
+
+-- the setup that is kept is that of the notes
+pub setup-is :
+    {plan : EquipmentPlan} {start : List Happening} {said : List ToolCommand} {drawn : Option ℕ} (own : OwnView)
+    (notes : List Happening)
+    → Holds plan start said own drawn notes → (held : Option (List Entry)) → own.setup ≡ list_in held notes
+setup-is own notes holds held = ap (λ (kept : Option Owed × Option (List Entry)). kept.1) (holds.kept_is held)
 
 -- an event that happens by its command behind these notes
 abbrev pub happening : ℕ → ℕ → List Happening → Happened
@@ -65,10 +78,12 @@ HasSpare plan own notes text =
     ≤ count_of_events plan body notes
 
 pub holds-less :
-    {drawn : Option ℕ} (plan : EquipmentPlan) (said : List ToolCommand) (own other : OwnView) (notes : List Happening)
-    → Holds plan said own drawn notes → IsNoMore own other → Holds plan said other drawn notes
-holds-less plan said own other notes holds less = record {
+    {drawn : Option ℕ} (plan : EquipmentPlan) (start : List Happening) (said : List ToolCommand) (own other : OwnView)
+    (notes : List Happening)
+    → Holds plan start said own drawn notes → IsNoMore own other → Holds plan start said other drawn notes
+holds-less plan start said own other notes holds less = record {
   plan_is = less.plan_is ∙ holds.plan_is;
+  kept_is = λ held. less.kept_is ∙ holds.kept_is held;
   tables_are = less.tables_are ∙ holds.tables_are;
   events_are = less.events_are ∙ holds.events_are;
   commanded = holds.commanded;
@@ -101,17 +116,19 @@ live-as plan body old new events some =
     subst (λ (happened : List Happened). 0 < length (filter (is_reported_by plan body) happened)) (sym events) some
 
 pub holds-as :
-    {drawn : Option ℕ} (plan : EquipmentPlan) (said : List ToolCommand) (own : OwnView) (old new : List Happening)
-    → Holds plan said own drawn old → IsAsBefore old new → Holds plan said own drawn new
-holds-as plan said own old new holds same = record {
+    {drawn : Option ℕ} (plan : EquipmentPlan) (start : List Happening) (said : List ToolCommand) (own : OwnView)
+    (old new : List Happening)
+    → Holds plan start said own drawn old → IsAsBefore old new → Holds plan start said own drawn new
+holds-as plan start said own old new holds same = record {
   plan_is = holds.plan_is;
+  kept_is = λ held. holds.kept_is held ∙ ap owing_none (sym (same.kept held));
   tables_are = holds.tables_are ∙ ap (λ (past : List Past). tables_at plan past) (sym same.past);
   events_are = holds.events_are ∙ sym same.next;
   commanded = ap commands_in same.past ∙ holds.commanded;
   waits = waits-as plan own.for_grant old new same.reports same.events holds.waits;
   live = λ one has is. live-as plan one.message.body old new same.events (holds.live one has is);
   tried = λ number is. subst (λ (tries : List ℕ). Has tries number) (sym same.tries) (holds.tried number is);
-  settled = same.keeps plan holds.settled;
+  settled = same.keeps plan start holds.settled;
 }
 
 -- ---- texts
@@ -182,12 +199,14 @@ abbrev pub event_message : List ℕ → ℕ → Message
 event_message text system = primary_of (sent.live_report (event_report text)) system
 
 pub report-sent :
-    {drawn : Option ℕ} (plan : EquipmentPlan) (said : List ToolCommand) (own : OwnView) (notes : List Happening)
+    {drawn : Option ℕ} (plan : EquipmentPlan) (start : List Happening) (said : List ToolCommand) (own : OwnView)
+    (notes : List Happening)
     (text : List ℕ) (system : ℕ)
-    → Holds plan said own drawn notes → HasSpare plan own notes text
-    → Holds plan said own drawn (Happening.Sent (event_message text system) ∷ notes)
-report-sent plan said own notes text system holds spare = record {
+    → Holds plan start said own drawn notes → HasSpare plan own notes text
+    → Holds plan start said own drawn (Happening.Sent (event_message text system) ∷ notes)
+report-sent plan start said own notes text system holds spare = record {
   plan_is = holds.plan_is;
+  kept_is = holds.kept_is;
   tables_are = holds.tables_are;
   events_are = holds.events_are;
   commanded = holds.commanded;
@@ -195,7 +214,7 @@ report-sent plan said own notes text system holds spare = record {
   live = holds.live;
   tried = holds.tried;
   settled =
-      settled-more plan (Happening.Sent (event_message text system)) notes refl
+      settled-more plan start (Happening.Sent (event_message text system)) notes tt refl
       (record {
         s6f11 = λ is.
             is-report plan (event_message text system) notes refl
@@ -204,7 +223,7 @@ report-sent plan said own notes text system holds spare = record {
         s6f20 = λ is. absurd (cc);
         reply = λ is. absurd (cc);
       })
-      refl holds.settled;
+      refl (still-rests plan (Happening.Sent (event_message text system)) notes refl) holds.settled;
 }
   where
     most : (body : List ℕ) (counts : Bool)
@@ -216,14 +235,16 @@ report-sent plan said own notes text system holds spare = record {
 
 -- a report is kept as it is sent
 pub with-live :
-    {drawn : Option ℕ} (plan : EquipmentPlan) (said : List ToolCommand) (own : OwnView) (notes : List Happening)
+    {drawn : Option ℕ} (plan : EquipmentPlan) (start : List Happening) (said : List ToolCommand) (own : OwnView)
+    (notes : List Happening)
     (text : List ℕ) (crowded : Bool) (next : Option ℕ)
-    → Holds plan said own drawn notes → 0 < count_of_events plan text notes
-    → Holds plan said (if crowded then own else sent.kept_report next (event_report text) own) drawn notes
-with-live plan said own notes text true next holds some = holds
-with-live plan said own notes text false None holds some = holds
-with-live plan said own notes text false (Some system) holds some = record {
+    → Holds plan start said own drawn notes → 0 < count_of_events plan text notes
+    → Holds plan start said (if crowded then own else sent.kept_report next (event_report text) own) drawn notes
+with-live plan start said own notes text true next holds some = holds
+with-live plan start said own notes text false None holds some = holds
+with-live plan start said own notes text false (Some system) holds some = record {
   plan_is = holds.plan_is;
+  kept_is = holds.kept_is;
   tables_are = holds.tables_are;
   events_are = holds.events_are;
   commanded = holds.commanded;
@@ -243,43 +264,80 @@ with-live plan said own notes text false (Some system) holds some = record {
 
 -- what is due behind a command is what it brings by the tables that are kept
 pub due-of :
-    {drawn : Option ℕ} (plan : EquipmentPlan) (said : List ToolCommand) (own : OwnView) (command : ToolCommand)
+    {drawn : Option ℕ} (plan : EquipmentPlan) (start : List Happening) (said : List ToolCommand) (own : OwnView)
+    (command : ToolCommand)
     (notes : List Happening)
-    → Holds plan said own drawn notes
+    → Holds plan start said own drawn notes
     → due_behind plan (Happening.Recorded (Past.Commanded command) ∷ notes)
     ≡ brought_by own.tables own.events command
-due-of plan said own command notes holds =
+due-of plan start said own command notes holds =
     ap (λ (t : TablesState). brought_by t (next_dataid notes) command) (sym holds.tables_are)
     ∙ ap (λ (dataid : ℕ). brought_by own.tables dataid command) (sym holds.events_are)
 
+-- a note that a command brings leaves the setup at rest
+brought-rests :
+    (plan : EquipmentPlan) (held : Option (List Entry)) (what : Happening) (notes : List Happening)
+    → is_brought what ≡ true → AreResting plan held notes → AreResting plan held (what ∷ notes)
+brought-rests plan held (Happening.Set vid) notes is at = still-rests plan (Happening.Set vid) notes refl held at
+brought-rests plan held (Happening.Event ceid dataid) notes is at =
+    still-rests plan (Happening.Event ceid dataid) notes refl held at
+brought-rests plan held (Happening.Alarm alid is_set) notes is at =
+    still-rests plan (Happening.Alarm alid is_set) notes refl held at
+brought-rests plan held Happening.Refused notes is at = refused-rests plan held (list_in held notes) notes at
+brought-rests plan held what notes is at = absurd (cc)
+
 -- a command and the note that it brings
 pub brought-settled :
-    {drawn : Option ℕ} (plan : EquipmentPlan) (said : List ToolCommand) (own : OwnView) (command : ToolCommand)
+    {drawn : Option ℕ} (plan : EquipmentPlan) (start : List Happening) (said : List ToolCommand) (own : OwnView)
+    (command : ToolCommand)
     (what : Happening)
     (notes : List Happening)
-    → Holds plan said own drawn notes → brought_by own.tables own.events command ≡ Some what → is_brought what ≡ true
+    → Holds plan start said own drawn notes → brought_by own.tables own.events command ≡ Some what
+    → is_brought what ≡ true
     → IsReported plan what (Happening.Recorded (Past.Commanded command) ∷ notes)
     → due_behind plan (what ∷ Happening.Recorded (Past.Commanded command) ∷ notes) ≡ None
-    → AreSettled plan (what ∷ Happening.Recorded (Past.Commanded command) ∷ notes)
-brought-settled plan said own command what notes holds brings kind right none = record {
-  reported = (
-    ap (λ (b : Bool). if b then Some what else None) kind ∙ sym brings
-        ∙ sym (due-of plan said own command notes holds),
-    right,
-    (sym holds.settled.none_due, tt, holds.settled.reported),
-  );
-  none_due = none;
+    → AreSettled plan start (what ∷ Happening.Recorded (Past.Commanded command) ∷ notes)
+brought-settled plan start said own command what notes holds brings kind right none = record {
+  placed = record {
+    reported = (
+      in-place plan what (recorded ∷ notes) left
+          (ap (λ (b : Bool). if b then Some what else None) kind ∙ sym brings
+          ∙ sym (due-of plan start said own command notes holds))
+          right,
+      (in-place plan recorded notes placed.none_left (sym placed.none_due) tt, placed.reported),
+    );
+    none_due = none;
+    none_left = none-more what (recorded ∷ notes) (no-setup what kind) left;
+  };
+  rests = λ held keeps.
+      brought-rests plan held what (recorded ∷ notes) kind
+      (command-rests plan held (list_in held notes) command notes (holds.settled.rests held keeps));
 }
+  where
+    recorded : Happening
+    recorded = Happening.Recorded (Past.Commanded command)
+
+    placed : AreInPlace plan notes
+    placed = holds.settled.placed
+
+    left : to_carry (recorded ∷ notes) ≡ []
+    left = none-more recorded notes tt placed.none_left
+
+    no-setup : (what : Happening) → is_brought what ≡ true → IsNoSetup what
+    no-setup (Happening.Setup found) is = absurd (cc)
+    no-setup what is = tt
 
 -- an event happens
 pub event-noted :
-    {drawn : Option ℕ} (plan : EquipmentPlan) (said : List ToolCommand) (own : OwnView) (ceid : ℕ)
+    {drawn : Option ℕ} (plan : EquipmentPlan) (start : List Happening) (said : List ToolCommand) (own : OwnView)
+    (ceid : ℕ)
     (notes : List Happening)
-    → Holds plan said own drawn notes → is_planned own.tables.reports ceid ≡ true
-    → Holds plan (tool.Event ceid ∷ said) (with_event own) drawn
+    → Holds plan start said own drawn notes → is_planned own.tables.reports ceid ≡ true
+    → Holds plan start (tool.Event ceid ∷ said) (with_event own) drawn
     (Happening.Event ceid own.events ∷ Happening.Recorded (Past.Commanded (tool.Event ceid)) ∷ notes)
-event-noted plan said own ceid notes holds planned = record {
+event-noted plan start said own ceid notes holds planned = record {
   plan_is = holds.plan_is;
+  kept_is = holds.kept_is;
   tables_are = holds.tables_are;
   events_are = refl;
   commanded = ap (λ (commands : List ToolCommand). tool.Event ceid ∷ commands) holds.commanded;
@@ -293,20 +351,21 @@ event-noted plan said own ceid notes holds planned = record {
       omega (arith, some, more);
   tried = holds.tried;
   settled =
-      brought-settled plan said own (tool.Event ceid) (Happening.Event ceid own.events) notes holds
+      brought-settled plan start said own (tool.Event ceid) (Happening.Event ceid own.events) notes holds
       (ap (λ (b : Bool). Some (if b then Happening.Event ceid own.events else Happening.Refused)) planned) refl tt
       refl;
 }
 
 -- where it is enabled and has a text, it may be reported
 pub event-spare :
-    {drawn : Option ℕ} (plan : EquipmentPlan) (said : List ToolCommand) (own : OwnView) (ceid max : ℕ) (text : List ℕ)
+    {drawn : Option ℕ} (plan : EquipmentPlan) (start : List Happening) (said : List ToolCommand) (own : OwnView)
+    (ceid max : ℕ) (text : List ℕ)
     (notes : List Happening)
-    → Holds plan said own drawn notes → is_enabled_in own.tables.reports ceid ≡ true
+    → Holds plan start said own drawn notes → is_enabled_in own.tables.reports ceid ≡ true
     → spelled_body max (event_item own.tables ceid own.events) ≡ answer.Body text
     → HasSpare plan (with_event own)
     (Happening.Event ceid own.events ∷ Happening.Recorded (Past.Commanded (tool.Event ceid)) ∷ notes) text
-event-spare plan said own ceid max text notes holds enabled is body =
+event-spare plan start said own ceid max text notes holds enabled is body =
     let most = holds.waits body in
     let more = counted (is_reported_by plan body) event (events_in notes) in
     let same = ap one reported_by in
@@ -339,14 +398,16 @@ event-spare plan said own ceid max text notes holds enabled is body =
 
 -- one that was to wait for its grant
 pub with-waiting :
-    {drawn : Option ℕ} (plan : EquipmentPlan) (said : List ToolCommand) (own : OwnView) (notes : List Happening)
+    {drawn : Option ℕ} (plan : EquipmentPlan) (start : List Happening) (said : List ToolCommand) (own : OwnView)
+    (notes : List Happening)
     (text : List ℕ)
     (system : Option ℕ)
-    → Holds plan said own drawn notes → HasSpare plan own notes text
-    → Holds plan said (sent.with_asked system text own) drawn notes
-with-waiting plan said own notes text None holds spare = holds
-with-waiting plan said own notes text (Some system) holds spare = record {
+    → Holds plan start said own drawn notes → HasSpare plan own notes text
+    → Holds plan start said (sent.with_asked system text own) drawn notes
+with-waiting plan start said own notes text None holds spare = holds
+with-waiting plan start said own notes text (Some system) holds spare = record {
   plan_is = holds.plan_is;
+  kept_is = holds.kept_is;
   tables_are = holds.tables_are;
   events_are = holds.events_are;
   commanded = holds.commanded;
@@ -390,11 +451,12 @@ found-waiting test (first ∷ waiting) found body is =
         omega (arith, rest, more, less)
 
 pub granted-spare :
-    {drawn : Option ℕ} (plan : EquipmentPlan) (said : List ToolCommand) (own : OwnView) (system : ℕ) (found : GrantView)
+    {drawn : Option ℕ} (plan : EquipmentPlan) (start : List Happening) (said : List ToolCommand) (own : OwnView)
+    (system : ℕ) (found : GrantView)
     (notes : List Happening)
-    → Holds plan said own drawn notes → find (is_granted_by system) own.for_grant ≡ Some found
+    → Holds plan start said own drawn notes → find (is_granted_by system) own.for_grant ≡ Some found
     → HasSpare plan (without_grant system own) notes found.body
-granted-spare plan said own system found notes holds is body =
+granted-spare plan start said own system found notes holds is body =
     subst
     (λ (waiting : List GrantView).
     count_of_reports body notes + (count_waiting body waiting + one (bytes_eq body found.body))

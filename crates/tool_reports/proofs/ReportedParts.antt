@@ -1,7 +1,7 @@
 -- That the parts of a step report what holds.
 use Rattle.std.specs.Prelude.{IfSome}
 use Rattle.spool_ledger.specs.Activity.{rested}
-use Rattle.std.proofs.Common.{◌≡◌, ◌⊎◌, inl, inr, append_assoc, refl, sym, ap, subst, ◌∙◌, ◌%◌, ◌==◌, Bool, true, false, not, ℕ, zero, suc, ◌&&◌, ◌||◌, List, [], ◌∷◌, ◌++◌, replicate, Option, Some, None, if◌then◌else◌}
+use Rattle.std.proofs.Common.{◌≡◌, refl, sym, ap, subst, ◌∙◌, ◌%◌, ◌==◌, Bool, true, false, not, ℕ, zero, suc, ◌&&◌, ◌||◌, List, [], ◌∷◌, ◌++◌, replicate, Option, Some, None, if◌then◌else◌}
 use Rattle.block_codec.specs.declared.header.Header.{Header}
 use Rattle.gem_states.specs.declared.comms.CommsIn.TheVariants as comms_in
 use Rattle.line_end.specs.declared.event.LineEvent.{LineEvent}
@@ -31,8 +31,7 @@ use Rattle.equipment_tables.specs.Plan.{EquipmentPlanFits}
 use Rattle.tool_step.specs.declared.kind.Kind.{Kind}
 use Rattle.tool_step.specs.Own.{OwnView, ToolPart, ToolTurn, is_communicating, quiet_turn, turn_of}
 use Rattle.tool_step.specs.Replies.{block_timer, given_up_by_t4, given_up_turn, reply_timer, timeout_turn}
-use Rattle.spool_works.specs.DiskWorks.{DiskWork, behind_change, fronts_of, up_to_change}
-use Rattle.spool_works.specs.DiskWorks.DiskWork.{Change, ReadOldest, Reserve}
+use Rattle.spool_works.specs.DiskWorks.{DiskWork, fronts_of, up_to_change}
 use Rattle.tool_reports.specs.Histories.{with_command}
 use Rattle.tool_step.specs.Sampling.{made_part, sample_parts, sampling}
 use Rattle.tool_step.specs.Sent as sent
@@ -40,13 +39,14 @@ use Rattle.tool_step.specs.States as states
 use Rattle.tool_law.proofs.CommandWalks.{errors-are}
 use Rattle.tool_law.proofs.TurnWalks.{nothing-of, fixed-of, led-of, error-of}
 use Rattle.tool_law.proofs.LedgerLines.{rested-lines}
-use Rattle.tool_law.proofs.Lawful.{split-change}
-use Rattle.tool_reports.specs.Reported.{Reported, due_behind}
+use Rattle.spool_works.proofs.EachFront.{each-front}
+use Rattle.tool_reports.specs.Reported.{Reported, due_behind, to_carry}
 use Rattle.tool_step.specs.Spooling.{end_of_spooling, unload_part}
-use Rattle.tool_step.specs.Step.{begun, beginning, character, delay_timer, failed_turn, first_parts, flow_turn, input_part, is_spent, last_parts, late_parts, line_timer, long_turn, offer, took_turn}
+use Rattle.tool_step.specs.Step.{answering, begun, beginning, character, delay_timer, failed_turn, first_parts, flow_turn, input_part, is_spent, last_parts, late_parts, line_timer, long_turn, offer, took_turn}
 use Rattle.tool_step.specs.Tool.{told_turn}
 use Rattle.tool_reports.proofs.HostReports.{AsksOf}
 use Rattle.tool_reports.proofs.HeardMessages.{message-keeps}
+use Rattle.tool_reports.proofs.OwedReplies.{EndsOwing, HoldsOwing, answering-keeps, ends-owing, none-owing}
 use Rattle.tool_reports.proofs.ToolReports.{told-keeps}
 use Rattle.tool_reports.proofs.HeldReports.{Any, any-lasts, Ends, Free, Keeps, KeepsAt, led-at, plain, quietly-holds, silent-at, so_far}
 use Rattle.tool_reports.proofs.QuietReports.{Holds}
@@ -68,6 +68,11 @@ asks-newest message = go (is_primary message) message.wait refl
     go true false waits title is = absurd (cc)
     go false wait waits title is = absurd (cc)
 
+-- a block that came was no whole message
+abbrev pub IsNoMessage : Flow → Type 0
+IsNoMessage (flow.Whole message check) = ⊥
+IsNoMessage _ = Unit {0}
+
 abbrev pub NodeStep : Type 0
 NodeStep = Step (Node OwnView Kind) Happening
 
@@ -77,7 +82,7 @@ NodeStep = Step (Node OwnView Kind) Happening
 pub reported-before : (plan : EquipmentPlan) (rest before : List Happening) → Reported plan (noted_behind rest before)
     → Reported plan before
 reported-before plan [] before is = is
-reported-before plan (what ∷ rest) before is = (reported-before plan rest (what ∷ before) is).2
+reported-before plan (what ∷ rest) before is = (reported-before plan rest (what ∷ before) is).1
 
 -- what is noted before a change brings nothing
 change-due : (plan : EquipmentPlan) (what : Happening) (before : List Happening) → is_before_change what ≡ true
@@ -86,69 +91,68 @@ change-due plan (Happening.Recorded (Past.Asked request)) before is = refl
 change-due plan (Happening.Recorded (Past.Commanded command)) before is = absurd (cc)
 change-due plan what before is = refl
 
--- nor does all that is noted up to it, or all, if there is no change
-up-due : (plan : EquipmentPlan) (lines past : List Happening) → due_behind plan (noted_behind lines past) ≡ None
-    → due_behind plan (noted_behind (up_to_change lines) past) ≡ None
-up-due plan [] past none = none
-up-due plan (what ∷ lines) past none =
-    go (is_before_change what) refl (λ later. up-due plan lines (what ∷ past) later)
-  where
-    go : (is : Bool) → is_before_change what ≡ is
-        → (due_behind plan (noted_behind lines (what ∷ past)) ≡ None
-        → due_behind plan (noted_behind (up_to_change lines) (what ∷ past)) ≡ None)
-        → due_behind plan (noted_behind (if is then [] else up_to_change lines) (what ∷ past)) ≡ None
-    go true is more = change-due plan what past is
-    go false is more = more none
+-- nor is a setup left behind it
+change-left : (what : Happening) (before : List Happening) → is_before_change what ≡ true
+    → to_carry (what ∷ before) ≡ []
+change-left (Happening.Setup found) before is = absurd (cc)
+change-left (Happening.Recorded entry) before is = absurd (cc)
+change-left Happening.Refused before is = absurd (cc)
+change-left what before is = refl
 
--- so of whatever is noted at a work
+-- what holds behind each note before a change, and behind all, holds of whatever is noted at a work
+module _ (P : List Happening → Type 0)
+    (changes : (what : Happening) (before : List Happening) → is_before_change what ≡ true → P (what ∷ before)) where
+  up-so : (lines past : List Happening) → P (noted_behind lines past) → P (noted_behind (up_to_change lines) past)
+  up-so [] past all = all
+  up-so (what ∷ lines) past all = go (is_before_change what) refl (λ later. up-so lines (what ∷ past) later)
+    where
+      go : (is : Bool) → is_before_change what ≡ is
+          → (P (noted_behind lines (what ∷ past)) → P (noted_behind (up_to_change lines) (what ∷ past)))
+          → P (noted_behind (if is then [] else up_to_change lines) (what ∷ past))
+      go true is more = changes what past is
+      go false is more = more all
+
+  front-at :
+      (base : List Happening) (works : List DiskWork) (before notes front : List Happening)
+      → P (noted_behind before base) → P (noted_behind (before ++ notes) base)
+      → Has (fronts_of before works notes) front → P (noted_behind front base)
+  front-at base =
+      each-front (λ (ns : List Happening). P (noted_behind ns base))
+      (λ before notes all.
+      subst P (sym (behind-both before (up_to_change notes) base))
+      (up-so notes (noted_behind before base) (subst P (behind-both before notes base) all)))
+
 pub front-due :
     (plan : EquipmentPlan) (base : List Happening) (works : List DiskWork) (before notes front : List Happening)
     → due_behind plan (noted_behind before base) ≡ None → due_behind plan (noted_behind (before ++ notes) base) ≡ None
     → Has (fronts_of before works notes) front → due_behind plan (noted_behind front base) ≡ None
-front-due plan base [] before notes front none all has = absurd has
-front-due plan base (Reserve ∷ works) before notes front none all (inl same) =
-    ap (λ (ns : List Happening). due_behind plan (noted_behind ns base)) same ∙ none
-front-due plan base (Reserve ∷ works) before notes front none all (inr has) =
-    front-due plan base works before notes front none all has
-front-due plan base (Change one ∷ works) before notes front none all has =
-    go has
-    (λ later.
-    front-due plan base works (before ++ up_to_change notes) (behind_change notes) front here
-    (ap (λ (ns : List Happening). due_behind plan (noted_behind ns base)) (sym whole) ∙ all) later)
-  where
-    whole : before ++ notes ≡ (before ++ up_to_change notes) ++ behind_change notes
-    whole =
-        ap (λ (ns : List Happening). before ++ ns) (split-change notes)
-        ∙ sym (append_assoc before (up_to_change notes) (behind_change notes))
+front-due plan = front-at (λ (ns : List Happening). due_behind plan ns ≡ None) (change-due plan)
 
-    here : due_behind plan (noted_behind (before ++ up_to_change notes) base) ≡ None
-    here =
-        ap (due_behind plan) (behind-both before (up_to_change notes) base)
-        ∙ up-due plan notes (noted_behind before base)
-        (ap (due_behind plan) (sym (behind-both before notes base)) ∙ all)
+pub front-left :
+    (base : List Happening) (works : List DiskWork) (before notes front : List Happening)
+    → to_carry (noted_behind before base) ≡ [] → to_carry (noted_behind (before ++ notes) base) ≡ []
+    → Has (fronts_of before works notes) front → to_carry (noted_behind front base) ≡ []
+front-left = front-at (λ (ns : List Happening). to_carry ns ≡ []) change-left
 
-    go : (front ≡ before ++ up_to_change notes)
-        ⊎ Has (fronts_of (before ++ up_to_change notes) works (behind_change notes)) front
-        → (Has (fronts_of (before ++ up_to_change notes) works (behind_change notes)) front
-        → due_behind plan (noted_behind front base) ≡ None)
-        → due_behind plan (noted_behind front base) ≡ None
-    go (inl same) more = ap (λ (ns : List Happening). due_behind plan (noted_behind ns base)) same ∙ here
-    go (inr has) more = more has
-front-due plan base (ReadOldest slots ∷ works) before notes front none all (inl same) =
-    ap (λ (ns : List Happening). due_behind plan (noted_behind ns base)) same ∙ all
-front-due plan base (ReadOldest slots ∷ works) before notes front none all (inr has) =
-    front-due plan base works before notes front none all has
-
-module _ (plan : EquipmentPlan) (fits : EquipmentPlanFits plan) (looked : TablesAreLookedBackFor) where
+module _
+    (plan : EquipmentPlan) (fits : EquipmentPlanFits plan) (looked : TablesAreLookedBackFor)
+    (start : List Happening) where
   module _ (said : List ToolCommand) (before : List Happening) where
     abbrev pub HoldsStep : NodeStep → Type 0
-    HoldsStep step = Holds plan said step.next.own step.next.core.drawn (noted_behind step.notes before)
+    HoldsStep step = Holds plan start said step.next.own step.next.core.drawn (noted_behind step.notes before)
 
     abbrev pub IsRight : NodeStep → Type 0
-    IsRight step = AreSettled plan (noted_behind step.notes before)
+    IsRight step = AreSettled plan start (noted_behind step.notes before)
 
     abbrev pub NodeEnds : Went (Node OwnView Kind) Happening → Type 0
     NodeEnds went = OnEither HoldsStep IsRight went
+
+    -- where something is asked of an object outside, its request waits
+    abbrev pub HoldsOwingStep : NodeStep → Type 0
+    HoldsOwingStep step = HoldsOwing plan start said step.next.own step.next.core (noted_behind step.notes before)
+
+    abbrev pub NodeOwes : Went (Node OwnView Kind) Happening → Type 0
+    NodeOwes went = OnEither HoldsOwingStep IsRight went
 
     abbrev pub PartKeeps : ToolPart → Type 0
     PartKeeps part = (step : NodeStep) → HoldsStep step
@@ -160,16 +164,33 @@ module _ (plan : EquipmentPlan) (fits : EquipmentPlanFits plan) (looked : Tables
 
     of-ends :
         (turn : ToolTurn) (step : NodeStep)
-        → Ends plan said before turn.own (all_done Some turn.duties (core_step step))
+        → Ends plan start said before turn.own (all_done Some turn.duties (core_step step))
         → NodeEnds (after_turn Some turn step)
     of-ends turn step ends = go (all_done Some turn.duties (core_step step)) ends
       where
-        go : (went : Went (EndView Kind) Happening) → Ends plan said before turn.own went
+        go : (went : Went (EndView Kind) Happening) → Ends plan start said before turn.own went
             → NodeEnds (went_with turn.own went)
         go (Goes next) at = at
         go (Spent next) at = at
 
-    pub of-turn : (turn : ToolTurn) (step : NodeStep) → KeepsAt plan said before step.next.own turn (core_step step)
+    owes-ends :
+        (turn : ToolTurn) (step : NodeStep)
+        → (EndsOwing plan fits looked start said before) turn.own (all_done Some turn.duties (core_step step))
+        → NodeOwes (after_turn Some turn step)
+    owes-ends turn step ends = go (all_done Some turn.duties (core_step step)) ends
+      where
+        go : (went : Went (EndView Kind) Happening) → (EndsOwing plan fits looked start said before) turn.own went
+            → NodeOwes (went_with turn.own went)
+        go (Goes next) at = at
+        go (Spent next) at = at
+
+    node-owes : (went : Went (Node OwnView Kind) Happening) → NodeEnds went → NodeOwes went
+    node-owes (Goes step) at = none-owing plan start said step.next.own step.next.core (noted_behind step.notes before)
+        at
+    node-owes (Spent step) at = at
+
+    pub of-turn : (turn : ToolTurn) (step : NodeStep) → KeepsAt plan start said before step.next.own turn
+        (core_step step)
         → HoldsStep step → NodeEnds (after_turn Some turn step)
     of-turn turn step keeps holds = of-ends turn step (keeps holds)
 
@@ -178,7 +199,8 @@ module _ (plan : EquipmentPlan) (fits : EquipmentPlanFits plan) (looked : Tables
         → PartKeeps part
     plain-part part are step holds =
         of-turn (part step.next.own step.next.core) step
-        (plain plan said before step.next.own (part step.next.own step.next.core) (are step.next.own step.next.core)
+        (plain plan start said before step.next.own (part step.next.own step.next.core)
+        (are step.next.own step.next.core)
         (core_step step)) holds
 
     parts-keep : (parts : List ToolPart) → AllKeep parts → (step : NodeStep) → HoldsStep step
@@ -199,65 +221,95 @@ module _ (plan : EquipmentPlan) (fits : EquipmentPlanFits plan) (looked : Tables
     -- ---- the line
 
     failed-keeps : (now : ℕ) (failed : Option Header) (own : OwnView) (e : EndView Kind)
-        → Keeps plan said before own (failed_turn now failed own e)
+        → Keeps plan start said before own (failed_turn now failed own e)
     failed-keeps now None own e = λ step holds. holds
     failed-keeps now (Some header) own e =
-        leaving-keeps plan said before comms_in.SendFailed (Some header) now own e
+        leaving-keeps plan start said before comms_in.SendFailed (Some header) now own e
 
     pub tick-keeps : (now : ℕ) → PartKeeps (line_timer now)
     tick-keeps now step holds =
         of-turn (line_timer now step.next.own step.next.core) step
         (λ held.
-        led-at plan said before (Tick now) step.next.own
+        led-at plan start said before (Tick now) step.next.own
         (failed_turn now (failed_at step.next.core now) step.next.own (core_after (Tick now) step.next.core))
         (core_step step) tt
         (failed-keeps now (failed_at step.next.core now) step.next.own (core_after (Tick now) step.next.core)) held)
         holds
 
     -- a block has come, and was this
-    came-keeps :
-        (now : ℕ) (header : Header) (came : Flow) (own : OwnView) (e : EndView Kind) (old next : CoreStep)
-        → next ≡ judges Some header came old → Holds plan said own next.next.drawn (so_far plan said before next)
-        → Ends plan said before (flow_turn now header came own e).own
+    other-keeps :
+        (now : ℕ) (header : Header) (came : Flow) (own : OwnView) (e : EndView Kind) (next : CoreStep)
+        → IsNoMessage came → Holds plan start said own next.next.drawn (so_far plan start said before next)
+        → Ends plan start said before (flow_turn now header came own e).own
         (all_done Some (flow_turn now header came own e).duties next)
-    came-keeps now header flow.Part own e old next is =
-        plain plan said before own (quiet_turn own) (nothing-of own own (itself own)) next
-    came-keeps now header (flow.Whole message check) own e old next is =
-        message-keeps plan fits looked said before now header message own e (so_far plan said before old) next
-        (subst (λ (s : CoreStep). AsksOf message s.next.asked) (sym is) (asks-newest message))
-        (ap (λ (s : CoreStep). so_far plan said before s) is ∙ one-behind old.notes (Happening.Received message) before)
-    came-keeps now header flow.Duplicate own e old next is =
-        plain plan said before own (quiet_turn own) (nothing-of own own (itself own)) next
-    came-keeps now header (flow.Foreign address) own e old next is =
-        plain plan said before own (turn_of own (sent.error_duty 1 header own ∷ []))
+    other-keeps now header flow.Part own e next none =
+        plain plan start said before own (quiet_turn own) (nothing-of own own (itself own)) next
+    other-keeps now header (flow.Whole message check) own e next none = absurd none
+    other-keeps now header flow.Duplicate own e next none =
+        plain plan start said before own (quiet_turn own) (nothing-of own own (itself own)) next
+    other-keeps now header (flow.Foreign address) own e next none =
+        plain plan start said before own (turn_of own (sent.error_duty 1 header own ∷ []))
         (error-of (common-silent Free tt Any any-lasts) states-stay 1 (λ body. (refl, refl)) header own) next
-    came-keeps now header flow.Unexpected own e old next is = given-up-keeps plan said before now header own e next
-    came-keeps now header flow.TooLong own e old next is = go (is_spent e)
+    other-keeps now header flow.Unexpected own e next none = given-up-keeps plan start said before now header own e next
+    other-keeps now header flow.TooLong own e next none = go (is_spent e)
       where
         go : (spent : Bool)
-            → Holds plan said own next.next.drawn (so_far plan said before next)
-            → Ends plan said before (long_turn spent header own (given_up_turn now header own e)).own
+            → Holds plan start said own next.next.drawn (so_far plan start said before next)
+            → Ends plan start said before (long_turn spent header own (given_up_turn now header own e)).own
             (all_done Some (long_turn spent header own (given_up_turn now header own e)).duties next)
         go true =
-            plain plan said before own (fixed_turn own (Halt ∷ []))
+            plain plan start said before own (fixed_turn own (Halt ∷ []))
             (fixed-of own own (Halt ∷ []) (itself own) (tt, tt)) next
         go false = λ holds.
-            either-then (λ last. Holds plan said own last.next.drawn (so_far plan said before last))
-            (λ last. AreSettled plan (so_far plan said before last))
-            (λ last. Holds plan said (given_up_turn now header own e).own last.next.drawn
-            (so_far plan said before last))
+            either-then (λ last. Holds plan start said own last.next.drawn (so_far plan start said before last))
+            (λ last. AreSettled plan start (so_far plan start said before last))
+            (λ last. Holds plan start said (given_up_turn now header own e).own last.next.drawn
+            (so_far plan start said before last))
             (carried Some (sent.error_duty 11 header own next.next) next)
             (all_done Some (given_up_turn now header own e).duties)
-            (silent-at plan said before own (sent.error_duty 11 header own next.next) next
+            (silent-at plan start said before own (sent.error_duty 11 header own next.next) next
             ((errors-are (common-silent Free tt Any any-lasts) 11 (λ body. (refl, refl)) header own).0 next.next) holds)
-            (λ last at. given-up-keeps plan said before now header own e last at)
-    came-keeps now header flow.Crowded own e old next is = given-up-keeps plan said before now header own e next
+            (λ last at. given-up-keeps plan start said before now header own e last at)
+    other-keeps now header flow.Crowded own e next none = given-up-keeps plan start said before now header own e next
+
+    -- or one
+    came-keeps :
+        (now : ℕ) (header : Header) (came : Flow) (own : OwnView) (e : EndView Kind) (old next : CoreStep)
+        → next ≡ judges Some header came old → Holds plan start said own next.next.drawn
+        (so_far plan start said before next)
+        → (EndsOwing plan fits looked start said before) (flow_turn now header came own e).own
+        (all_done Some (flow_turn now header came own e).duties next)
+    came-keeps now header came own e old next is holds = go came is
+      where
+        other : (came : Flow) → IsNoMessage came
+            → (EndsOwing plan fits looked start said before) (flow_turn now header came own e).own
+            (all_done Some (flow_turn now header came own e).duties next)
+        other came none =
+            (ends-owing plan fits looked start said before) (flow_turn now header came own e).own
+            (all_done Some (flow_turn now header came own e).duties next)
+            (other-keeps now header came own e next none holds)
+
+        go : (came : Flow) → next ≡ judges Some header came old
+            → (EndsOwing plan fits looked start said before) (flow_turn now header came own e).own
+            (all_done Some (flow_turn now header came own e).duties next)
+        go (flow.Whole message check) is =
+            message-keeps plan fits looked start said before now header message own e
+            (so_far plan start said before old) next
+            (subst (λ (s : CoreStep). AsksOf message s.next.asked) (sym is) (asks-newest message))
+            (ap (λ (s : CoreStep). so_far plan start said before s) is
+            ∙ one-behind old.notes (Happening.Received message) before) holds
+        go flow.Part is = other flow.Part tt
+        go flow.Duplicate is = other flow.Duplicate tt
+        go (flow.Foreign address) is = other (flow.Foreign address) tt
+        go flow.Unexpected is = other flow.Unexpected tt
+        go flow.TooLong is = other flow.TooLong tt
+        go flow.Crowded is = other flow.Crowded tt
 
     -- the line has told this of a character
     told-so :
         (now byte : ℕ) (happened : LineEvent) (own : OwnView) (e : EndView Kind) (step : CoreStep)
-        → Holds plan said own step.next.drawn (so_far plan said before step)
-        → Ends plan said before (took_turn now (took_by step.next happened) own e).own
+        → Holds plan start said own step.next.drawn (so_far plan start said before step)
+        → (EndsOwing plan fits looked start said before) (took_turn now (took_by step.next happened) own e).own
         (all_done Some (took_turn now (took_by step.next happened) own e).duties
         (tells Some (held_header step.next.line.held) happened now (calls (LineCall.Take byte now) step)))
     told-so now byte happened own e step holds = go happened (at happened)
@@ -266,33 +318,45 @@ module _ (plan : EquipmentPlan) (fits : EquipmentPlanFits plan) (looked : Tables
         next happened = tells Some (held_header step.next.line.held) happened now (calls (LineCall.Take byte now) step)
 
         at : (happened : LineEvent)
-            → Holds plan said own (next happened).next.drawn (so_far plan said before (next happened))
+            → Holds plan start said own (next happened).next.drawn (so_far plan start said before (next happened))
         at happened =
-            quietly-holds plan said before own step (next happened)
+            quietly-holds plan start said before own step (next happened)
             (adds-quiet before step.notes (next happened).notes
             (told-quiet (held_header step.next.line.held) happened now (calls (LineCall.Take byte now) step)))
             (told-drawn (held_header step.next.line.held) happened now (calls (LineCall.Take byte now) step)) holds
 
         failed : (header : Option Header)
-            → Holds plan said own (next event.Failed).next.drawn (so_far plan said before (next event.Failed))
-            → Ends plan said before (took_turn now (failed_as header) own e).own
+            → Holds plan start said own (next event.Failed).next.drawn (so_far plan start said before
+            (next event.Failed))
+            → Ends plan start said before (took_turn now (failed_as header) own e).own
             (all_done Some (took_turn now (failed_as header) own e).duties (next event.Failed))
-        failed None = plain plan said before own (quiet_turn own) (nothing-of own own (itself own))
+        failed None = plain plan start said before own (quiet_turn own) (nothing-of own own (itself own))
             (next event.Failed)
         failed (Some header) = failed-keeps now (Some header) own e (next event.Failed)
 
-        go : (happened : LineEvent)
-            → Holds plan said own (next happened).next.drawn (so_far plan said before (next happened))
-            → Ends plan said before (took_turn now (took_by step.next happened) own e).own
+        quiet : (happened : LineEvent)
+            → Holds plan start said own (next happened).next.drawn (so_far plan start said before (next happened))
+            → Ends plan start said before own (all_done Some (quiet_turn own).duties (next happened))
+        quiet happened = plain plan start said before own (quiet_turn own) (nothing-of own own (itself own))
+            (next happened)
+
+        owing : (happened : LineEvent)
+            → Ends plan start said before (took_turn now (took_by step.next happened) own e).own
             (all_done Some (took_turn now (took_by step.next happened) own e).duties (next happened))
-        go event.Nothing =
-            plain plan said before own (quiet_turn own) (nothing-of own own (itself own)) (next event.Nothing)
-        go event.Sent =
-            plain plan said before own (quiet_turn own) (nothing-of own own (itself own)) (next event.Sent)
-        go (event.Refused cause) =
-            plain plan said before own (quiet_turn own) (nothing-of own own (itself own))
-            (next (event.Refused cause))
-        go event.Failed = failed (held_header step.next.line.held)
+            → (EndsOwing plan fits looked start said before) (took_turn now (took_by step.next happened) own e).own
+            (all_done Some (took_turn now (took_by step.next happened) own e).duties (next happened))
+        owing happened is =
+            (ends-owing plan fits looked start said before) (took_turn now (took_by step.next happened) own e).own
+            (all_done Some (took_turn now (took_by step.next happened) own e).duties (next happened)) is
+
+        go : (happened : LineEvent)
+            → Holds plan start said own (next happened).next.drawn (so_far plan start said before (next happened))
+            → (EndsOwing plan fits looked start said before) (took_turn now (took_by step.next happened) own e).own
+            (all_done Some (took_turn now (took_by step.next happened) own e).duties (next happened))
+        go event.Nothing = λ held. owing event.Nothing (quiet event.Nothing held)
+        go event.Sent = λ held. owing event.Sent (quiet event.Sent held)
+        go (event.Refused cause) = λ held. owing (event.Refused cause) (quiet (event.Refused cause) held)
+        go event.Failed = λ held. owing event.Failed (failed (held_header step.next.line.held) held)
         go (event.Arrived block) =
             came-keeps now block.header (flow_to step.next.assembly block) own e
             (with_end
@@ -300,11 +364,12 @@ module _ (plan : EquipmentPlan) (fits : EquipmentPlanFits plan) (looked : Tables
             (calls (LineCall.Take byte now) step).next)) (calls (LineCall.Take byte now) step))
             (next (event.Arrived block)) refl
 
-    char-keeps : (byte now : ℕ) → PartKeeps (character byte now)
+    char-keeps : (byte now : ℕ) (step : NodeStep) → HoldsStep step
+        → NodeOwes (after_turn Some (character byte now step.next.own step.next.core) step)
     char-keeps byte now step holds =
-        of-turn (character byte now step.next.own step.next.core) step
+        owes-ends (character byte now step.next.own step.next.core) step
         (told-so now byte (line_step step.next.core.line (LineCall.Take byte now)).event step.next.own
-        (core_after (Take byte now) step.next.core) (core_step step)) holds
+        (core_after (Take byte now) step.next.core) (core_step step) holds)
 
     -- ---- a step
 
@@ -318,6 +383,7 @@ module _ (plan : EquipmentPlan) (fits : EquipmentPlanFits plan) (looked : Tables
           duties = is.duties;
           keeps = record {
             plan_is = is.keeps.plan_is;
+            kept_is = is.keeps.kept_is;
             tables_are = is.keeps.tables_are;
             events_are = is.keeps.events_are;
             fewer = is.keeps.fewer;
@@ -338,20 +404,20 @@ module _ (plan : EquipmentPlan) (fits : EquipmentPlanFits plan) (looked : Tables
     t4-keeps now step holds =
         of-turn (block_timer now step.next.own step.next.core) step
         (λ held.
-        led-at plan said before (DropDue now) step.next.own
+        led-at plan start said before (DropDue now) step.next.own
         (given_up_by_t4 now (dropped_now step.next.core now) step.next.own (core_after (DropDue now) step.next.core))
         (core_step step) tt
-        (by-t4-keeps plan said before now (dropped_now step.next.core now) step.next.own
+        (by-t4-keeps plan start said before now (dropped_now step.next.core now) step.next.own
         (core_after (DropDue now) step.next.core)) held) holds
 
     pub t3-keeps : (now : ℕ) → PartKeeps (reply_timer now)
     t3-keeps now step holds =
         of-turn (reply_timer now step.next.own step.next.core) step
         (λ held.
-        led-at plan said before (Expire now) step.next.own
+        led-at plan start said before (Expire now) step.next.own
         (timeout_turn now (due_now step.next.core now) step.next.own (core_after (Expire now) step.next.core))
         (core_step step) tt
-        (timeout-keeps plan said before now (due_now step.next.core now) step.next.own
+        (timeout-keeps plan start said before now (due_now step.next.core now) step.next.own
         (core_after (Expire now) step.next.core)) held) holds
 
     late-keep : (now : ℕ) → AllKeep (late_parts now)
@@ -380,31 +446,34 @@ module _ (plan : EquipmentPlan) (fits : EquipmentPlanFits plan) (looked : Tables
   parts-then :
       (said to : List ToolCommand) (before : List Happening) (parts rest : List ToolPart) → AllKeep said before parts
       → (step : NodeStep) → HoldsStep said before step
-      → ((last : NodeStep) → HoldsStep said before last → NodeEnds to before (after_parts Some rest last))
-      → NodeEnds to before (after_parts Some (parts ++ rest) step)
+      → ((last : NodeStep) → HoldsStep said before last → NodeOwes to before (after_parts Some rest last))
+      → NodeOwes to before (after_parts Some (parts ++ rest) step)
   parts-then said to before [] rest all step holds more = more step holds
   parts-then said to before (part ∷ parts) rest all step holds more =
-      either-then (HoldsStep said before) (IsRight said before) (HoldsStep to before)
+      either-then (HoldsStep said before) (IsRight said before) (HoldsOwingStep to before)
       (after_turn Some (part step.next.own step.next.core) step) (after_parts Some (parts ++ rest)) (all.0 step holds)
       (λ next at. parts-then said to before parts rest all.1 next at more)
 
   pub input-keeps :
       (said : List ToolCommand) (before : List Happening) (input : Input ToolCommand) (now : ℕ) (step : NodeStep)
       → HoldsStep said before step
-      → NodeEnds (with_command input said) before
+      → NodeOwes (with_command input said) before
       (after_turn Some (input_part input now step.next.own step.next.core) step)
   input-keeps said before (Char byte) now step holds = char-keeps said before byte now step holds
   input-keeps said before Time now step holds =
-      plain-part said before (input_part Time now) (λ own e. nothing-of own own (itself own)) step holds
+      node-owes said before (after_turn Some (input_part Time now step.next.own step.next.core) step)
+      (plain-part said before (input_part Time now) (λ own e. nothing-of own own (itself own)) step holds)
   input-keeps said before (Told command) now step holds =
-      of-ends (command ∷ said) before (told_turn command now step.next.own step.next.core) step
-      (told-keeps plan fits looked said before command now step.next.own step.next.core (core_step step) holds)
+      node-owes (command ∷ said) before
+      (after_turn Some (told_turn command now step.next.own step.next.core) step)
+      (of-ends (command ∷ said) before (told_turn command now step.next.own step.next.core) step
+      (told-keeps plan fits looked start said before command now step.next.own step.next.core (core_step step) holds))
 
   -- the first parts of a step
   pub first-keeps :
       (said : List ToolCommand) (before : List Happening) (input : Input ToolCommand) (now : ℕ) (step : NodeStep)
       → HoldsStep said before step
-      → NodeEnds (with_command input said) before (after_parts Some (first_parts input now) step)
+      → NodeOwes (with_command input said) before (after_parts Some (first_parts input now) step)
   first-keeps said before input now step holds =
       parts-then said (with_command input said) before
       (beginning now ∷ line_timer now ∷ (late_parts now ++ delay_timer now ∷ sample_parts now))
@@ -420,21 +489,34 @@ module _ (plan : EquipmentPlan) (fits : EquipmentPlanFits plan) (looked : Tables
         ),
       ) step holds
       (λ last at.
-      either-then (HoldsStep (with_command input said) before) (IsRight said before)
-      (HoldsStep (with_command input said) before)
+      either-then (HoldsOwingStep (with_command input said) before) (IsRight said before)
+      (HoldsOwingStep (with_command input said) before)
       (after_turn Some (input_part input now last.next.own last.next.core) last) (after_parts Some [])
       (input-keeps said before input now last at) (λ next held. held))
+
+  -- what waits for the works is answered
+  pub answers-owed :
+      (said : List ToolCommand) (before : List Happening) (step : NodeStep) → HoldsOwingStep said before step
+      → NodeEnds said before (after_turn Some (answering step.next.own step.next.core) step)
+  answers-owed said before step holds =
+      of-ends said before (answering step.next.own step.next.core) step
+      ((answering-keeps plan fits looked start said before) step.next.own (core_step step) holds)
 
   -- and its last ones
   pub last-keeps :
       (said : List ToolCommand) (before : List Happening) (oldest : Option Spooled)
       → IfSome oldest (λ message. (message.function % 2 == 1) ≡ true) → (now : ℕ) (step : NodeStep)
-      → HoldsStep said before step → NodeEnds said before (after_parts Some (last_parts oldest now) step)
+      → HoldsOwingStep said before step → NodeEnds said before (after_parts Some (last_parts oldest now) step)
   last-keeps said before oldest odd now step holds =
-      parts-keep said before (last_parts oldest now) (
+      either-then (HoldsStep said before) (IsRight said before) (HoldsStep said before)
+      (after_turn Some (answering step.next.own step.next.core) step)
+      (after_parts Some (unload_part oldest ∷ end_of_spooling ∷ offer now ∷ closes ∷ []))
+      (answers-owed said before step holds)
+      (λ last at.
+      parts-keep said before (unload_part oldest ∷ end_of_spooling ∷ offer now ∷ closes ∷ []) (
         (λ at held.
             of-turn said before (unload_part oldest at.next.own at.next.core) at
-            (unload-keeps plan said before oldest odd at.next.own (core_step at)) held),
+            (unload-keeps plan start said before oldest odd at.next.own (core_step at)) held),
         (
           plain-part said before end_of_spooling
               (λ own e.
@@ -445,4 +527,4 @@ module _ (plan : EquipmentPlan) (fits : EquipmentPlanFits plan) (looked : Tables
             (plain-part said before closes (closes-plain said before), tt),
           ),
         ),
-      ) step holds
+      ) last at)

@@ -28,7 +28,7 @@ use Rattle.message_end.specs.Course.{noted_behind}
 use Rattle.message_end.specs.Duties.{all_done}
 use Rattle.tool_step.specs.declared.kind.Kind.{Kind}
 use Rattle.tool_step.specs.Own.{ToolCommands, ToolDuty}
-use Rattle.tool_reports.specs.Reported.{is_answer, is_of}
+use Rattle.tool_reports.specs.Reported.{is_answer, is_no_space, is_of}
 use Rattle.tool_reports.proofs.QuietNotes.{AddsQuiet, Follows, follows, none-of, none-sent, quiet-note, IsAsBefore, IsQuietNote, as-before-both, as-it-was}
 use Rattle.message_end.proofs.Parts.{OnEither, either-then, either-less}
 use Rattle.tool_law.proofs.CommandWalks.{AllAre, AllDo, HasCommon}
@@ -97,7 +97,8 @@ module _
         no_answer number =
             ap
             (λ (odd : Bool).
-            (not odd && not (unsent.function == 0)) && not (is_of 1 14 (primary_of unsent number))) silent.1
+            ((not odd && not (unsent.function == 0)) && not (is_of 1 14 (primary_of unsent number)))
+            && not (is_no_space (primary_of unsent number))) silent.1
 
         drawn : (number : Option ℕ) → OnEither (Adds step) (Adds step) (draws number (sends Some unsent) step)
         drawn None = record { quiet = inl refl; drawn = refl; asks = asks }

@@ -17,6 +17,9 @@ use Rattle.gem_vars.specs.declared.settings.Setting.{Setting}
 use Rattle.gem_vars.specs.Settings.{refusal_of}
 use Rattle.message_flow.proofs.Keys.{beq-true}
 use Rattle.secs_items.specs.declared.item.Item.{Item}
+use Rattle.setup_law.proofs.Notes.{command-rests}
+use Rattle.setup_law.specs.Setup.{list_in}
+use Rattle.setup_store.specs.Entries.{Entry}
 use Rattle.trace_log.specs.declared.commands.ToolCommand.{ToolCommand}
 use Rattle.trace_log.specs.declared.commands.ToolCommand.TheVariants as tool
 use Rattle.trace_log.specs.Log.{Happening, Past}
@@ -48,7 +51,7 @@ use Rattle.tool_reports.proofs.SilentCommands.{common-silent}
 use Rattle.tool_reports.proofs.HeldReports.{Any, any-lasts, Ends, Free, noted-so, plain, reports-at, so_far, stored-keeps}
 use Rattle.tool_reports.proofs.QuietReports.{HasSpare, Holds, brought-settled, due-of, event-noted, event-spare, holds-less, waits-as, with-waiting}
 use Rattle.tool_reports.proofs.LeavingReports.{leaving-keeps}
-use Rattle.tool_reports.proofs.PlainTurns.{states-stay, IsPlain, itself, report-plain, comms-plain, control-plain, count_waiting, at-most}
+use Rattle.tool_reports.proofs.PlainTurns.{states-stay, IsPlain, itself, report-plain, comms-plain, control-plain, count_waiting, at-most, owing_none}
 use Rattle.tool_reports.proofs.QuietNotes.{one-behind, settled-more}
 use Rattle.tool_law.proofs.CoreSteps.{CoreStep}
 
@@ -107,6 +110,7 @@ is-there table alid is_set step is = go (alarm_in table alid) is
 -- one of which nothing is read, where no event happens
 record IsOutcome (what : Happening) : Type 0 where
   past : (notes : List Happening) → past_in (what ∷ notes) ≡ past_in notes
+  kept : (held : Option (List Entry)) (notes : List Happening) → list_in held (what ∷ notes) ≡ list_in held notes
   events : (notes : List Happening) → events_in (what ∷ notes) ≡ events_in notes
   reports : (notes : List Happening) → reports_in (what ∷ notes) ≡ reports_in notes
   next : (notes : List Happening) → next_dataid (what ∷ notes) ≡ next_dataid notes
@@ -118,6 +122,7 @@ record IsOutcome (what : Happening) : Type 0 where
 set-outcome : (vid : ℕ) → IsOutcome (Happening.Set vid)
 set-outcome vid = record {
   past = λ notes. refl;
+  kept = λ held notes. refl;
   events = λ notes. refl;
   reports = λ notes. refl;
   next = λ notes. refl;
@@ -130,6 +135,7 @@ set-outcome vid = record {
 alarm-outcome : (alid : ℕ) (is_set : Bool) → IsOutcome (Happening.Alarm alid is_set)
 alarm-outcome alid is_set = record {
   past = λ notes. refl;
+  kept = λ held notes. refl;
   events = λ notes. refl;
   reports = λ notes. refl;
   next = λ notes. refl;
@@ -142,6 +148,7 @@ alarm-outcome alid is_set = record {
 refused-outcome : IsOutcome Happening.Refused
 refused-outcome = record {
   past = λ notes. refl;
+  kept = λ held notes. refl;
   events = λ notes. refl;
   reports = λ notes. refl;
   next = λ notes. refl;
@@ -163,17 +170,17 @@ recorded command = Happening.Recorded (Past.Commanded command)
 
 module _
     (plan : EquipmentPlan) (fits : EquipmentPlanFits plan) (looked : TablesAreLookedBackFor)
-    (said : List ToolCommand) (before : List Happening) where
+    (start : List Happening) (said : List ToolCommand) (before : List Happening) where
   -- ---- an event
 
   asked-keeps :
       (asked : Text) (text : List ℕ) (own : OwnView) (e : EndView Kind) (step : CoreStep)
-      → Holds plan said own step.next.drawn (so_far plan said before step)
-      → HasSpare plan own (so_far plan said before step) text
-      → Ends plan said before (sent.asking_turn asked text own e).own
+      → Holds plan start said own step.next.drawn (so_far plan start said before step)
+      → HasSpare plan own (so_far plan start said before step) text
+      → Ends plan start said before (sent.asking_turn asked text own e).own
       (all_done Some (sent.asking_turn asked text own e).duties step)
   asked-keeps (answer.Body asked) text own e step holds spare =
-      plain plan said before (sent.granted_own text own e)
+      plain plan start said before (sent.granted_own text own e)
       (fixed_turn (sent.granted_own text own e) (Primary (sent.grant_request asked) ∷ []))
       (fixed-of (sent.granted_own text own e) (sent.granted_own text own e)
       (Primary (sent.grant_request asked) ∷ []) (itself (sent.granted_own text own e))
@@ -181,17 +188,18 @@ module _
       step (go (is_crowded_out true e))
     where
       go : (crowded : Bool)
-          → Holds plan said (if crowded then own else sent.with_asked (next_number e.numbers) text own)
-          step.next.drawn (so_far plan said before step)
+          → Holds plan start said (if crowded then own else sent.with_asked (next_number e.numbers) text own)
+          step.next.drawn (so_far plan start said before step)
       go true = holds
-      go false = with-waiting plan said own (so_far plan said before step) text (next_number e.numbers) holds spare
+      go false = with-waiting plan start said own (so_far plan start said before step) text (next_number e.numbers)
+          holds spare
   asked-keeps answer.TooLong text own e step holds spare = holds
 
   event-keeps :
       (dataid : ℕ) (text : List ℕ) (own : OwnView) (e : EndView Kind) (step : CoreStep)
-      → Holds plan said own step.next.drawn (so_far plan said before step)
-      → HasSpare plan own (so_far plan said before step) text
-      → Ends plan said before (sent.event_turn dataid text own e).own
+      → Holds plan start said own step.next.drawn (so_far plan start said before step)
+      → HasSpare plan own (so_far plan start said before step) text
+      → Ends plan start said before (sent.event_turn dataid text own e).own
       (all_done Some (sent.event_turn dataid text own e).duties step)
   event-keeps dataid text own e step holds spare = go (nat_le (length text) 244)
     where
@@ -199,8 +207,8 @@ module _
       turn_by alone =
           if alone then sent.going_turn (event_report text) own e else sent.grant_turn dataid text own e
 
-      go : (alone : Bool) → Ends plan said before (turn_by alone).own (all_done Some (turn_by alone).duties step)
-      go true = reports-at plan said before own text e step holds spare
+      go : (alone : Bool) → Ends plan start said before (turn_by alone).own (all_done Some (turn_by alone).duties step)
+      go true = reports-at plan start said before own text e step holds spare
       go false =
           asked-keeps (sent.text_of own (sent.grant_item dataid (length text))) text own e step holds spare
 
@@ -210,9 +218,9 @@ module _
 
   made-keeps :
       (dataid : ℕ) (text : List ℕ) (own : OwnView) (e : EndView Kind) (step : CoreStep)
-      → Holds plan said own step.next.drawn (so_far plan said before step)
-      → HasSpare plan own (so_far plan said before step) text
-      → Ends plan said before (made_turn (going dataid own e) (event_report text) own).own
+      → Holds plan start said own step.next.drawn (so_far plan start said before step)
+      → HasSpare plan own (so_far plan start said before step) text
+      → Ends plan start said before (made_turn (going dataid own e) (event_report text) own).own
       (all_done Some (made_turn (going dataid own e) (event_report text) own).duties step)
   made-keeps dataid text own e step holds spare = go (is_spooled (event_report text) own) (is_communicating own)
     where
@@ -223,49 +231,50 @@ module _
           else unreported_turn states.event_name own
 
       go : (spooled communicating : Bool)
-          → Ends plan said before (turn_by spooled communicating).own
+          → Ends plan start said before (turn_by spooled communicating).own
           (all_done Some (turn_by spooled communicating).duties step)
-      go true communicating = stored-keeps plan said before own text step holds spare
+      go true communicating = stored-keeps plan start said before own text step holds spare
       go false true = event-keeps dataid text own e step holds spare
       go false false =
-          plain plan said before own (unreported_turn states.event_name own)
+          plain plan start said before own (unreported_turn states.event_name own)
           (note-of own own (Happening.Dropped states.event_name) (itself own) tt) step holds
 
   text-keeps :
       (dataid : ℕ) (text : Text) (own : OwnView) (e : EndView Kind) (step : CoreStep)
-      → Holds plan said own step.next.drawn (so_far plan said before step)
-      → ((body : List ℕ) → text ≡ answer.Body body → HasSpare plan own (so_far plan said before step) body)
-      → Ends plan said before (judged_turn event_report (going dataid own e) text own).own
+      → Holds plan start said own step.next.drawn (so_far plan start said before step)
+      → ((body : List ℕ) → text ≡ answer.Body body → HasSpare plan own (so_far plan start said before step) body)
+      → Ends plan start said before (judged_turn event_report (going dataid own e) text own).own
       (all_done Some (judged_turn event_report (going dataid own e) text own).duties step)
   text-keeps dataid text own e step holds spare = online (is_online own)
     where
       by_text : (t : Text) → text ≡ t
-          → Ends plan said before (text_turn event_report (going dataid own e) t own).own
+          → Ends plan start said before (text_turn event_report (going dataid own e) t own).own
           (all_done Some (text_turn event_report (going dataid own e) t own).duties step)
       by_text (answer.Body body) is = made-keeps dataid body own e step holds (spare body is)
       by_text answer.TooLong is =
-          plain plan said before own (fixed_turn own (Note (Happening.TooLong states.event_name) ∷ []))
+          plain plan start said before own (fixed_turn own (Note (Happening.TooLong states.event_name) ∷ []))
           (note-of own own (Happening.TooLong states.event_name) (itself own) tt) step holds
 
       online_turn_by : Bool → ToolTurn
       online_turn_by b =
           if b then text_turn event_report (going dataid own e) text own else unreported_turn states.event_name own
 
-      online : (b : Bool) → Ends plan said before (online_turn_by b).own (all_done Some (online_turn_by b).duties step)
+      online : (b : Bool) → Ends plan start said before (online_turn_by b).own
+          (all_done Some (online_turn_by b).duties step)
       online true = by_text text refl
       online false =
-          plain plan said before own (unreported_turn states.event_name own)
+          plain plan start said before own (unreported_turn states.event_name own)
           (note-of own own (Happening.Dropped states.event_name) (itself own) tt) step holds
 
 -- ---- a command as it is noted, in a step before which the tool has said this
 
 module _
     (plan : EquipmentPlan) (fits : EquipmentPlanFits plan) (looked : TablesAreLookedBackFor)
-    (said : List ToolCommand) (before : List Happening) where
+    (start : List Happening) (said : List ToolCommand) (before : List Happening) where
   -- the tables as the command leaves them are those that are looked back for
   told-tables :
       {drawn : Option ℕ} (command : ToolCommand) (own : OwnView) (notes : List Happening)
-      → Holds plan said own drawn notes
+      → Holds plan start said own drawn notes
       → after_command command own.tables ≡ tables_in plan (recorded command ∷ notes)
   told-tables command own notes holds =
       ap (λ (t : TablesState). after_command command t) holds.tables_are
@@ -277,19 +286,20 @@ module _
 
   behind-is :
       (command : ToolCommand) (what : Happening) (step : CoreStep)
-      → so_far plan said before (behind command what step)
-      ≡ what ∷ recorded command ∷ so_far plan said before step
+      → so_far plan start said before (behind command what step)
+      ≡ what ∷ recorded command ∷ so_far plan start said before step
   behind-is command what step =
       one-behind (noted Some (recorded command) step).notes what before
       ∙ ap (λ (notes : List Happening). what ∷ notes) (one-behind step.notes (recorded command) before)
 
   behind-so :
       (command : ToolCommand) (what : Happening) (own : OwnView) (step : CoreStep)
-      → Holds plan (command ∷ said) own step.next.drawn (what ∷ recorded command ∷ so_far plan said before step)
-      → Holds plan (command ∷ said) own (behind command what step).next.drawn
-      (so_far plan said before (behind command what step))
+      → Holds plan start (command ∷ said) own step.next.drawn (what ∷ recorded command ∷ so_far plan start said before
+      step)
+      → Holds plan start (command ∷ said) own (behind command what step).next.drawn
+      (so_far plan start said before (behind command what step))
   behind-so command what own step holds =
-      subst (λ (notes : List Happening). Holds plan (command ∷ said) own step.next.drawn notes)
+      subst (λ (notes : List Happening). Holds plan start (command ∷ said) own step.next.drawn notes)
       (sym (behind-is command what step)) holds
 
   -- ---- a command that brings none of these notes
@@ -297,9 +307,10 @@ module _
   other-noted :
       {drawn : Option ℕ} (command : ToolCommand) (own : OwnView) (notes : List Happening)
       → brought_by own.tables own.events command ≡ None → after_command command own.tables ≡ own.tables
-      → Holds plan said own drawn notes → Holds plan (command ∷ said) own drawn (recorded command ∷ notes)
+      → Holds plan start said own drawn notes → Holds plan start (command ∷ said) own drawn (recorded command ∷ notes)
   other-noted command own notes none same holds = record {
     plan_is = holds.plan_is;
+    kept_is = holds.kept_is;
     tables_are = sym same ∙ told-tables command own notes holds;
     events_are = holds.events_are;
     commanded = ap (λ (cs : List ToolCommand). command ∷ cs) holds.commanded;
@@ -307,30 +318,33 @@ module _
     live = holds.live;
     tried = holds.tried;
     settled =
-        settled-more plan (recorded command) notes refl tt (due-of plan said own command notes holds ∙ none)
-        holds.settled;
+        settled-more plan start (recorded command) notes tt refl tt (due-of plan start said own command notes holds
+        ∙ none)
+        (λ held at. command-rests plan held (list_in held notes) command notes at) holds.settled;
   }
 
   other-keeps :
       (command : ToolCommand) (own : OwnView) (turn : ToolTurn) (step : CoreStep)
       → brought_by own.tables own.events command ≡ None → after_command command own.tables ≡ own.tables
-      → IsPlain Free tt Any any-lasts own turn → Holds plan said own step.next.drawn (so_far plan said before step)
-      → Ends plan (command ∷ said) before turn.own
+      → IsPlain Free tt Any any-lasts own turn → Holds plan start said own step.next.drawn
+      (so_far plan start said before step)
+      → Ends plan start (command ∷ said) before turn.own
       (all_done Some (led_turn (Note (recorded command)) turn).duties step)
   other-keeps command own turn step none same is holds =
-      plain plan (command ∷ said) before own turn is (noted Some (recorded command) step)
-      (noted-so plan (command ∷ said) before own (recorded command) step
-      (other-noted command own (so_far plan said before step) none same holds))
+      plain plan start (command ∷ said) before own turn is (noted Some (recorded command) step)
+      (noted-so plan start (command ∷ said) before own (recorded command) step
+      (other-noted command own (so_far plan start said before step) none same holds))
 
   -- ---- a command with what came of it, where no event happens
 
   outcome-noted :
       {drawn : Option ℕ} (command : ToolCommand) (what : Happening) (own : OwnView) (notes : List Happening)
       → IsOutcome what
-      → brought_by own.tables own.events command ≡ Some what → Holds plan said own drawn notes
-      → Holds plan (command ∷ said) (commanded command own) drawn (what ∷ recorded command ∷ notes)
+      → brought_by own.tables own.events command ≡ Some what → Holds plan start said own drawn notes
+      → Holds plan start (command ∷ said) (commanded command own) drawn (what ∷ recorded command ∷ notes)
   outcome-noted command what own notes is brings holds = record {
     plan_is = holds.plan_is;
+    kept_is = λ held. holds.kept_is held ∙ ap owing_none (sym (is.kept held (recorded command ∷ notes)));
     tables_are =
         told-tables command own notes holds
         ∙ ap (λ (past : List Past). tables_at plan past) (sym (is.past (recorded command ∷ notes)));
@@ -348,7 +362,7 @@ module _
         subst (λ (tries : List ℕ). Has tries number) (sym (is.tries (recorded command ∷ notes)))
         (holds.tried number drawn);
     settled =
-        brought-settled plan said own command what notes holds brings is.kind
+        brought-settled plan start said own command what notes holds brings is.kind
         (is.right plan (recorded command ∷ notes)) (is.none plan (recorded command ∷ notes));
   }
 
@@ -357,12 +371,14 @@ module _
       {drawn : Option ℕ} (command : ToolCommand) (what : Happening) (own : OwnView) (notes : List Happening)
       → IsOutcome what
       → brought_by own.tables own.events command ≡ Some what → after_command command own.tables ≡ own.tables
-      → Holds plan said own drawn notes → Holds plan (command ∷ said) own drawn (what ∷ recorded command ∷ notes)
+      → Holds plan start said own drawn notes → Holds plan start (command ∷ said) own drawn
+      (what ∷ recorded command ∷ notes)
   unchanged-noted command what own notes is brings same holds =
-      holds-less plan (command ∷ said) (commanded command own) own (what ∷ recorded command ∷ notes)
+      holds-less plan start (command ∷ said) (commanded command own) own (what ∷ recorded command ∷ notes)
       (outcome-noted command what own notes is brings holds)
       (record {
         plan_is = refl;
+        kept_is = refl;
         tables_are = sym same;
         events_are = refl;
         fewer = λ body. at-most (count_waiting body own.for_grant);
@@ -373,20 +389,21 @@ module _
       (command : ToolCommand) (own : OwnView) (step : CoreStep)
       → brought_by own.tables own.events command ≡ Some Happening.Refused
       → after_command command own.tables ≡ own.tables
-      → Holds plan said own step.next.drawn (so_far plan said before step)
-      → Ends plan (command ∷ said) before own
+      → Holds plan start said own step.next.drawn (so_far plan start said before step)
+      → Ends plan start (command ∷ said) before own
       (all_done Some (led_turn (Note (recorded command)) (refused_turn own)).duties step)
   refused-keeps command own step brings same holds =
       behind-so command Happening.Refused own step
-      (unchanged-noted command Happening.Refused own (so_far plan said before step) refused-outcome brings same holds)
+      (unchanged-noted command Happening.Refused own (so_far plan start said before step) refused-outcome brings same
+      holds)
 
   -- ---- variables
 
   set-keeps :
       (refusal : Option Setting) (vid : ℕ) (value : Item) (own : OwnView) (step : CoreStep)
       → refusal_of own.tables.vars vid value ≡ refusal
-      → Holds plan said own step.next.drawn (so_far plan said before step)
-      → Ends plan (tool.Set vid value ∷ said) before (set_turn refusal vid value own).own
+      → Holds plan start said own step.next.drawn (so_far plan start said before step)
+      → Ends plan start (tool.Set vid value ∷ said) before (set_turn refusal vid value own).own
       (all_done Some
       (led_turn (Note (recorded (tool.Set vid value))) (set_turn refusal vid value own)).duties step)
   set-keeps (Some refusal) vid value own step is holds =
@@ -395,7 +412,7 @@ module _
       (ap (λ (r : Option Setting). set_by r vid value own.tables) is) holds
   set-keeps None vid value own step is holds =
       behind-so (tool.Set vid value) (Happening.Set vid) (commanded (tool.Set vid value) own) step
-      (outcome-noted (tool.Set vid value) (Happening.Set vid) own (so_far plan said before step) (set-outcome vid)
+      (outcome-noted (tool.Set vid value) (Happening.Set vid) own (so_far plan start said before step) (set-outcome vid)
       (ap (λ (r : Option Setting). Some (if is_some r then Happening.Refused else Happening.Set vid)) is) holds)
 
   -- ---- alarms
@@ -418,8 +435,8 @@ module _
   alarm-keeps :
       (found : AlarmStep) (alid : ℕ) (is_set : Bool) (own : OwnView) (e : EndView Kind) (step : CoreStep)
       → step_of own.tables.alarms alid is_set ≡ found
-      → Holds plan said own step.next.drawn (so_far plan said before step)
-      → Ends plan (tool.Alarm alid is_set ∷ said) before (alarm_turn found alid is_set own e).own
+      → Holds plan start said own step.next.drawn (so_far plan start said before step)
+      → Ends plan start (tool.Alarm alid is_set ∷ said) before (alarm_turn found alid is_set own e).own
       (all_done Some
       (led_turn (Note (recorded (tool.Alarm alid is_set))) (alarm_turn found alid is_set own e)).duties step)
   alarm-keeps alarm_step.Unknown alid is_set own e step is holds =
@@ -427,14 +444,15 @@ module _
       (alarm-same alarm_step.Unknown alid is_set own is tt) holds
   alarm-keeps alarm_step.Same alid is_set own e step is holds =
       behind-so (tool.Alarm alid is_set) (Happening.Alarm alid is_set) own step
-      (unchanged-noted (tool.Alarm alid is_set) (Happening.Alarm alid is_set) own (so_far plan said before step)
+      (unchanged-noted (tool.Alarm alid is_set) (Happening.Alarm alid is_set) own (so_far plan start said before step)
       (alarm-outcome alid is_set) (alarm-brings alarm_step.Same alid is_set own is)
       (alarm-same alarm_step.Same alid is_set own is tt) holds)
   alarm-keeps (alarm_step.Changed enabled) alid is_set own e step is holds =
-      plain plan (tool.Alarm alid is_set ∷ said) before changed (alarm_report_turn enabled alid changed e) (go enabled)
+      plain plan start (tool.Alarm alid is_set ∷ said) before changed (alarm_report_turn enabled alid changed e)
+      (go enabled)
       (behind (tool.Alarm alid is_set) (Happening.Alarm alid is_set) step)
       (behind-so (tool.Alarm alid is_set) (Happening.Alarm alid is_set) changed step
-      (outcome-noted (tool.Alarm alid is_set) (Happening.Alarm alid is_set) own (so_far plan said before step)
+      (outcome-noted (tool.Alarm alid is_set) (Happening.Alarm alid is_set) own (so_far plan start said before step)
       (alarm-outcome alid is_set) (alarm-brings (alarm_step.Changed enabled) alid is_set own is) holds))
     where
       changed : OwnView
@@ -450,8 +468,9 @@ module _
 
   happened-keeps :
       (known : Bool) (ceid : ℕ) (own : OwnView) (e : EndView Kind) (step : CoreStep)
-      → is_planned own.tables.reports ceid ≡ known → Holds plan said own step.next.drawn (so_far plan said before step)
-      → Ends plan (tool.Event ceid ∷ said) before (known_event_turn known ceid own e).own
+      → is_planned own.tables.reports ceid ≡ known → Holds plan start said own step.next.drawn
+      (so_far plan start said before step)
+      → Ends plan start (tool.Event ceid ∷ said) before (known_event_turn known ceid own e).own
       (all_done Some (led_turn (Note (recorded (tool.Event ceid))) (known_event_turn known ceid own e)).duties step)
   happened-keeps false ceid own e step is holds =
       refused-keeps (tool.Event ceid) own step
@@ -461,31 +480,34 @@ module _
       next : CoreStep
       next = behind (tool.Event ceid) (Happening.Event ceid own.events) step
 
-      noted_event : Holds plan (tool.Event ceid ∷ said) (with_event own) next.next.drawn (so_far plan said before next)
+      noted_event : Holds plan start (tool.Event ceid ∷ said) (with_event own) next.next.drawn
+          (so_far plan start said before next)
       noted_event =
           behind-so (tool.Event ceid) (Happening.Event ceid own.events) (with_event own) step
-          (event-noted plan said own ceid (so_far plan said before step) holds planned)
+          (event-noted plan start said own ceid (so_far plan start said before step) holds planned)
 
       go : (enabled : Bool) → is_enabled_in own.tables.reports ceid ≡ enabled
-          → Ends plan (tool.Event ceid ∷ said) before (enabled_turn enabled ceid own.events (with_event own) e).own
+          → Ends plan start (tool.Event ceid ∷ said) before (enabled_turn enabled ceid own.events (with_event own)
+          e).own
           (all_done Some (enabled_turn enabled ceid own.events (with_event own) e).duties next)
       go true is =
-          text-keeps plan fits looked (tool.Event ceid ∷ said) before own.events
+          text-keeps plan fits looked start (tool.Event ceid ∷ said) before own.events
           (sent.text_of own (event_item own.tables ceid own.events)) (with_event own) e next noted_event
           (λ body text.
           subst (λ (ns : List Happening). HasSpare plan (with_event own) ns body)
           (sym (behind-is (tool.Event ceid) (Happening.Event ceid own.events) step))
-          (event-spare plan said own ceid own.plan.line.max_body body (so_far plan said before step) holds is text))
+          (event-spare plan start said own ceid own.plan.line.max_body body (so_far plan start said before step) holds
+          is text))
       go false is =
-          plain plan (tool.Event ceid ∷ said) before (with_event own) (quiet_turn (with_event own))
+          plain plan start (tool.Event ceid ∷ said) before (with_event own) (quiet_turn (with_event own))
           (nothing-of (with_event own) (with_event own) (itself (with_event own))) next noted_event
 
   -- ---- all of them
 
   pub told-keeps :
       (command : ToolCommand) (now : ℕ) (own : OwnView) (e : EndView Kind) (step : CoreStep)
-      → Holds plan said own step.next.drawn (so_far plan said before step)
-      → Ends plan (command ∷ said) before (told_turn command now own e).own
+      → Holds plan start said own step.next.drawn (so_far plan start said before step)
+      → Ends plan start (command ∷ said) before (told_turn command now own e).own
       (all_done Some (told_turn command now own e).duties step)
   told-keeps (tool.Set vid value) now own e step holds =
       set-keeps (refusal_of own.tables.vars vid value) vid value own step refl holds
@@ -497,10 +519,10 @@ module _
       other-keeps tool.Enable own (command_turn tool.Enable now own e) step refl refl
       (comms-plain Free tt Any any-lasts comms_in.Enable now own) holds
   told-keeps tool.Disable now own e step holds =
-      leaving-keeps plan (tool.Disable ∷ said) before comms_in.Disable None now own e
+      leaving-keeps plan start (tool.Disable ∷ said) before comms_in.Disable None now own e
       (noted Some (recorded tool.Disable) step)
-      (noted-so plan (tool.Disable ∷ said) before own (recorded tool.Disable) step
-      (other-noted tool.Disable own (so_far plan said before step) refl refl holds))
+      (noted-so plan start (tool.Disable ∷ said) before own (recorded tool.Disable) step
+      (other-noted tool.Disable own (so_far plan start said before step) refl refl holds))
   told-keeps tool.Online now own e step holds =
       other-keeps tool.Online own (command_turn tool.Online now own e) step refl refl
       (online-of (common-silent Free tt Any any-lasts) states-stay (refl, refl) own e) holds

@@ -1,5 +1,8 @@
--- That the equipment's tables are what its history makes of the plan's.
-use Rattle.std.specs.Prelude.{◌≡◌, ℕ, List}
+-- That the equipment's tables are what its history makes of the plan's, and that the setup which it keeps is what its
+-- notes tell.
+use Rattle.std.specs.Prelude.{◌≡◌, ℕ, List, Option, None}
+use Rattle.setup_law.specs.Setup.{list_in}
+use Rattle.setup_store.specs.Entries.{Entry}
 use Rattle.spool_file.specs.File.{SpoolFile}
 use Rattle.trace_log.specs.declared.commands.ToolCommand.{ToolCommand}
 use Rattle.message_end.specs.Core.{Went}
@@ -13,6 +16,7 @@ use Rattle.equipment_tables.specs.Plan.{EquipmentPlanFits}
 use Rattle.tool_law.specs.Sound.{AllCanBeSent}
 use Rattle.tool_step.specs.End.{machine}
 use Rattle.tool_step.specs.Equipment.{EquipmentView, begun_step, started_on}
+use Rattle.tool_step.specs.Setup.{setup_in}
 use Rattle.tool_reports.specs.Reported.{tables_in}
 
 -- as long as the equipment goes on, each variable, constant, report, event and alarm, and what is spooled, has what was
@@ -48,3 +52,15 @@ StepsHaveWhatWasSet =
     (plan : EquipmentPlan) (file : SpoolFile) → EquipmentPlanFits plan → AllCanBeSent file.list
     → (meetings : List (Meeting ToolCommand))
     → SetsInSteps plan (course_of (started_on plan file) machine meetings)
+
+-- as long as the equipment goes on, it keeps the setup that its start has found, with each primary behind it that was
+-- noted as kept, and no request waits between two steps for what it has asked of an object outside
+abbrev pub HasWhatWasKept : Option (List Entry) → Course EquipmentView → Type 0
+HasWhatWasKept held (Reached s notes) = (s.node.own.setup ≡ list_in held notes) × (s.node.own.owed ≡ None)
+HasWhatWasKept held (Stopped notes) = Unit {0}
+
+abbrev pub SetupIsWhatWasKept : Type 0
+SetupIsWhatWasKept =
+    (plan : EquipmentPlan) (file : SpoolFile) → EquipmentPlanFits plan → AllCanBeSent file.list
+    → (meetings : List (Meeting ToolCommand))
+    → HasWhatWasKept (setup_in file) (course_of (started_on plan file) machine meetings)

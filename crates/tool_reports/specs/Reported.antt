@@ -2,10 +2,11 @@
 -- happened, or as it was asked for (SEMI E30, event data collection); and each event, like each setting, is of its
 -- command. A report goes out at once, or it is put into the spool, or both; what goes out of the spool is what was put
 -- there, as the law of the spool says. The newest comes first: what was noted before is the rest of the list.
-use Rattle.std.specs.Prelude.{◌≡◌, ◌<◌, ◌^◌, ◌%◌, ◌+◌, ◌==◌, ◌&&◌, ℕ, Bool, true, false, not, nat_eq, List, [], ◌∷◌, length, filter, bytes_eq, Option, Some, None, is_some, if◌then◌else◌}
+use Rattle.std.specs.Prelude.{◌≡◌, ◌<◌, ◌^◌, ◌%◌, ◌+◌, ◌==◌, ◌&&◌, ◌||◌, ℕ, Bool, true, false, not, nat_eq, List, [], ◌∷◌, drop, length, filter, bytes_eq, Option, Some, None, is_some, if◌then◌else◌}
 use Rattle.std.specs.List.{list_any}
 use Rattle.gem_alarms.specs.Alarms.{alarm_in}
 use Rattle.gem_reports.specs.Reporting.{is_enabled_in, is_planned}
+use Rattle.gem_shapes.specs.Answers.{code_item}
 use Rattle.gem_shapes.specs.declared.request.Request.TheVariants as request
 use Rattle.gem_shapes.specs.declared.request.TablesRequest.{TablesRequest}
 use Rattle.gem_shapes.specs.declared.request.TablesRequest.TheVariants as tables_request
@@ -14,10 +15,11 @@ use Rattle.message_flow.specs.declared.message.Message.{Message}
 use Rattle.secs_items.specs.declared.item.Item.{Item}
 use Rattle.secs_items.specs.Encoding.{encode_fault}
 use Rattle.secs_items.specs.Spelling.{shortest_spelling}
+pub use Rattle.setup_law.specs.Setup.{past_in, tables_in}
 use Rattle.trace_log.specs.declared.commands.ToolCommand.{ToolCommand}
 use Rattle.trace_log.specs.declared.commands.ToolCommand.TheVariants as tool
 use Rattle.trace_log.specs.Log.{Happening, Past}
-use Rattle.trace_log.specs.Names.{Spooled}
+use Rattle.trace_log.specs.Names.{KeptPrimary, Spooled}
 use Rattle.message_end.specs.Core.{reply_function}
 use Rattle.message_end.specs.Own.{Has}
 use Rattle.equipment_tables.specs.declared.plan.EquipmentPlan.{EquipmentPlan}
@@ -25,15 +27,9 @@ use Rattle.equipment_tables.specs.Answers.{event_item, report_item_of}
 use Rattle.equipment_tables.specs.Past.{tables_at}
 use Rattle.equipment_tables.specs.Requests.{request_of}
 use Rattle.equipment_tables.specs.Tables.{TablesState}
+use Rattle.tool_step.specs.Setup.{carried_line, found_list}
 
 -- ---- what is read off the notes since the newest start
-
--- what counts when the equipment looks back
-abbrev pub past_in : List Happening → List Past
-past_in [] = []
-past_in (Happening.EquipmentStarted found base ∷ before) = []
-past_in (Happening.Recorded entry ∷ before) = entry ∷ past_in before
-past_in (_ ∷ before) = past_in before
 
 -- the commands of the tool among these
 abbrev pub commands_in : List Past → List ToolCommand
@@ -41,9 +37,14 @@ commands_in [] = []
 commands_in (Past.Commanded command ∷ past) = command ∷ commands_in past
 commands_in (Past.Asked primary ∷ past) = commands_in past
 
--- the tables as they are then: each variable, report, link and enable as it is looked back for
-abbrev pub tables_in : EquipmentPlan → List Happening → TablesState
-tables_in plan before = tables_at plan (past_in before)
+-- what is left to be carried out of the setup that a start has found, right behind that start: each entry is noted as
+-- one that counts, or as refused
+abbrev pub to_carry : List Happening → List KeptPrimary
+to_carry [] = []
+to_carry (Happening.Setup found ∷ before) = found_list found
+to_carry (Happening.Recorded entry ∷ before) = drop 1 (to_carry before)
+to_carry (Happening.Refused ∷ before) = drop 1 (to_carry before)
+to_carry (_ ∷ before) = []
 
 -- an event, with what counted before it
 pub record Happened : Type 0 where
@@ -165,13 +166,20 @@ AnswersForReport plan message before =
     (rptid : ℕ)
     × IsAnswer 19 (tables_request.Report rptid) (report_item_of (tables_in plan before) rptid) message (past_in before)
 
--- a reply that answers a request: any but S1F14, whose request changes no table, and function 0 (SEMI E5, function)
+-- DRACK 1 and LRACK 1: there is no space (SEMI E5, S2F34, S2F36)
+abbrev pub is_no_space : Message → Bool
+is_no_space message =
+    (is_of 2 34 message || is_of 2 36 message) && bytes_eq message.body (shortest_spelling (code_item 1))
+
+-- a reply that answers a request which counts: any but S1F14, function 0, and one that says that there is no space, whose
+-- requests change no table (SEMI E5, function)
 abbrev pub is_answer : Message → Bool
 is_answer message =
-    (not (message.function % 2 == 1) && not (message.function == 0)) && not (is_of 1 14 message)
+    ((not (message.function % 2 == 1) && not (message.function == 0)) && not (is_of 1 14 message))
+    && not (is_no_space message)
 
 -- it answers the newest request that counts, which has W, and has none itself; S6F16 and S6F20 are such replies, too.
--- So each request to which the host has an answer counts
+-- So each request to which the host has such an answer counts
 pub record IsReply (message : Message) (past : List Past) : Type 0 where
   pub primary : Message
   pub earlier : List Past
@@ -229,14 +237,27 @@ abbrev pub IsRecorded : Past → List Happening → Type 0
 IsRecorded (Past.Asked primary) before = (earlier : List Happening) × (before ≡ Happening.Received primary ∷ earlier)
 IsRecorded (Past.Commanded command) before = Unit {0}
 
+-- a setup is found by a start, and told right behind it
+abbrev pub IsFound : List Happening → Type 0
+IsFound before =
+    (found : List (ℕ × Spooled)) × (base : ℕ) × (earlier : List Happening)
+    × (before ≡ Happening.EquipmentStarted found base ∷ earlier)
+
 -- what is said of a note by its kind
 abbrev pub IsReported : EquipmentPlan → Happening → List Happening → Type 0
+IsReported plan (Happening.Setup found) before = IsFound before
 IsReported plan (Happening.Sent message) before = HoldsItsValues plan message before
 IsReported plan (Happening.Storing number message) before = IsKeptReport plan message before
 IsReported plan (Happening.Recorded entry) before = IsRecorded entry before
 IsReported plan _ before = Unit {0}
 
+-- while a setup is carried out each note is that of its next entry, by the tables so far; else it is as its kind says,
+-- and one that a command brings is that of its command
+abbrev pub IsInPlace : EquipmentPlan → List KeptPrimary → Happening → List Happening → Type 0
+IsInPlace plan [] what before = IsBrought plan what before × IsReported plan what before
+IsInPlace plan (entry ∷ rest) what before = what ≡ carried_line (tables_in plan before) entry
+
 -- every note agrees with all notes before it (this profile)
 abbrev pub Reported : EquipmentPlan → List Happening → Type 0
 Reported plan [] = Unit {0}
-Reported plan (what ∷ before) = IsBrought plan what before × IsReported plan what before × Reported plan before
+Reported plan (what ∷ before) = IsInPlace plan (to_carry before) what before × Reported plan before

@@ -1,5 +1,5 @@
 -- What is said of S6F1, in one example that can be followed by hand: a trace of two samples.
-use Rattle.std.specs.Prelude.{◌≡◌, ℕ, true, false, List, [], ◌∷◌, ◌++◌, Some}
+use Rattle.std.specs.Prelude.{◌≡◌, ℕ, true, false, List, [], ◌∷◌, ◌++◌, Some, None}
 use Rattle.secs_items.specs.declared.item.Item.TheVariants as item
 use Rattle.secs_items.specs.Spelling.{shortest_spelling}
 use Rattle.gem_shapes.specs.declared.request.Request.TheVariants.{Trace}
@@ -29,7 +29,7 @@ notes_behind [] before = before
 notes_behind (made ∷ rest) before = notes_behind rest (noted_behind made.1 before)
 
 abbrev pub start : List Happening
-start = Happening.EquipmentStarted [] 0 ∷ []
+start = Happening.StepEnded ∷ Happening.Setup None ∷ Happening.EquipmentStarted [] 0 ∷ []
 
 -- variable 1 is 7 as planned
 abbrev pub the_plan : EquipmentPlan

@@ -1,7 +1,7 @@
 //! What holds of the reports of the equipment.
 
 ghost use Rattle.tool_reports.specs.Laws.{ReportsAreOfTheirEvents};
-ghost use Rattle.tool_reports.specs.LookedBack.{StepsHaveWhatWasSet, TablesAreWhatWasSet};
+ghost use Rattle.tool_reports.specs.LookedBack.{SetupIsWhatWasKept, StepsHaveWhatWasSet, TablesAreWhatWasSet};
 ghost use Rattle.tool_reports.specs.WorkedReports.{LaterSettingsAreNotReported};
 ghost use Rattle.tool_reports.specs.WorkedSampled.{SamplesAreWorked};
 ghost use Rattle.tool_reports.specs.WorkedSettings.{AlarmsStayEnabled};
@@ -33,6 +33,14 @@ pub fn later_settings_are_not_reported()
 pub fn tables_are_what_was_set()
     ensures between { TablesAreWhatWasSet }
     ensures within { StepsHaveWhatWasSet }
+{
+    tables_are_looked_back_for();
+}
+
+/// Between any two steps, over all starts, the setup that the equipment keeps in memory is what its notes tell: the list
+/// that its start has found, with each primary behind it that was kept since. And no answer waits by then.
+pub fn setup_is_what_was_kept()
+    ensures { SetupIsWhatWasKept }
 {
     tables_are_looked_back_for();
 }

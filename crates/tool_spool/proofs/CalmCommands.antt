@@ -19,7 +19,7 @@ use Rattle.message_flow.specs.Assembly.{flow_to, header_so_far, with_block}
 use Rattle.message_flow.specs.Message.{is_primary}
 use Rattle.message_flow.specs.Outgoing.{next_block_of, next_turn}
 use Rattle.trace_log.specs.declared.names.Title.{Title}
-use Rattle.trace_log.specs.Log.{Happening, is_before_change}
+use Rattle.trace_log.specs.Log.{Happening}
 use Rattle.trace_log.specs.Names.{header_title, message_name, title_of}
 use Rattle.transact.specs.declared.begun.Begun.{Begun}
 use Rattle.transact.specs.declared.transactions.Beginning.{Beginning}
@@ -39,6 +39,7 @@ use Rattle.tool_reports.specs.Reported.{past_in}
 use Rattle.message_end.proofs.Parts.{OnEither}
 use Rattle.tool_law.proofs.CommandWalks.{AllAre, AllDo}
 use Rattle.tool_law.proofs.CoreSteps.{CoreStep}
+use Rattle.tool_spool.proofs.StillLines.{tells_of_file}
 use Rattle.tool_spool.proofs.UnloadOpen.{IsLess, asks_grant, ends-less, last-open, less-both, timed-same, unloads_in, with_open}
 
 -- ---- what changes of the core
@@ -131,10 +132,10 @@ IsCalmChange hears told (Sends message) = MaySendTried told message
 IsCalmChange hears told Other = Unit {0}
 IsCalmChange hears told _ = ⊥
 
--- it doesn't count when the equipment looks back, and stands before no change of its file
+-- it doesn't count when the equipment looks back, and tells nothing of what its file keeps
 abbrev pub IsAside : Happening → Type 0
 IsAside what =
-    ((notes : List Happening) → past_in (what ∷ notes) ≡ past_in notes) × (is_before_change what ≡ false)
+    ((notes : List Happening) → past_in (what ∷ notes) ≡ past_in notes) × (tells_of_file what ≡ false)
 
 -- one note more at most, and a calm one
 pub record CalmStep (hears : Bool) (told : List Told) (step next : CoreStep) : Type 0 where

@@ -40,15 +40,17 @@ IsCalmTurn own turn = IsTurnOf (IsCalm false) IsLikeIt own turn
 
 -- ---- what the equipment keeps
 
-pub like-as : (own new : OwnView) → new.ledger ≡ own.ledger → new.reports ≡ own.reports → IsLikeIt own new
-like-as own new ledger same = record { ledger = ledger; reports = subst ArePutWell (sym same) }
+pub like-as : (own new : OwnView) → new.ledger ≡ own.ledger → new.owed ≡ own.owed → new.reports ≡ own.reports
+    → IsLikeIt own new
+like-as own new ledger owed same = record { ledger = ledger; owed = owed; reports = subst ArePutWell (sym same) }
 
 pub likes : (own : OwnView) → IsLikeIt own own
-likes own = like-as own own refl refl
+likes own = like-as own own refl refl refl
 
 pub unreported-like : (own : OwnView) (system : ℕ) → IsLikeIt own (without_report system own)
 unreported-like own system = record {
   ledger = refl;
+  owed = refl;
   reports = λ are one has.
       are one
       (has-less (is_report_of system) own.reports one
@@ -60,6 +62,7 @@ pub reported-like : (own : OwnView) (system : ℕ) (message : Spooled) → IsPut
     → IsLikeIt own (with_report system message own)
 reported-like own system message well = record {
   ledger = refl;
+  owed = refl;
   reports = λ are one has. go are one (has-snoc own.reports (record { system = system; message = message }) one has);
 }
   where
@@ -71,8 +74,8 @@ reported-like own system message well = record {
 pub states-like : KeepsStates IsLikeIt
 states-like = record {
   itself = λ own. likes own;
-  comms = λ own next. like-as own (with_comms next own) refl refl;
-  control = λ own other next like. record { ledger = like.ledger; reports = like.reports };
+  comms = λ own next. like-as own (with_comms next own) refl refl refl;
+  control = λ own other next like. record { ledger = like.ledger; owed = like.owed; reports = like.reports };
 }
 
 -- ---- commands
@@ -108,7 +111,7 @@ pub event-calm : (dataid : ℕ) (body : List ℕ) (own : OwnView) (e : EndView K
     → IsCalmTurn own (sent.event_turn dataid body own e)
 event-calm dataid body own e =
     event-of common-calm states-like dataid body (λ text. refl) own
-    (λ system. like-as own (sent.with_asked (Some system) body own) refl refl) e
+    (λ system. like-as own (sent.with_asked (Some system) body own) refl refl refl) e
     (going-calm (event_report body) (refl, omega arith) own e)
 
 pub unreported-calm : (name : Name) (own : OwnView) → IsCalmTurn own (unreported_turn name own)
@@ -158,7 +161,7 @@ answer-calm asks message own = record {
     (λ e. lines-other own.tables (is_local own) asks),
     answers-calm (answer_of own.tables (is_local own) own.plan.line.max_body asks) message,
   );
-  keeps = like-as own (with_tables (tables_after asks own.tables) own) refl refl;
+  keeps = like-as own (with_tables (tables_after asks own.tables) own) refl refl refl;
 }
 
 pub rsda-calm : (message : Message) (own : OwnView) → AreCalmDuties false (rsda_duties message own)

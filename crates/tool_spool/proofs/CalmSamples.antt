@@ -26,14 +26,14 @@ pub trace-calm : (asked : TraceRequest) (now : ℕ) (message : Message) (own : O
     → IsCalmTurn own (trace_turn asked now message own)
 trace-calm asked now message own = record {
   duties = answers-calm (sent.text_of own (code_item (tiaack_code (tiaack_in asked own)))) message;
-  keeps = like-as own (trace_turn asked now message own).own refl refl;
+  keeps = like-as own (trace_turn asked now message own).own refl refl refl;
 }
 
 -- ---- samples
 
 pub sampling-calm : (now : ℕ) (own : OwnView) (e : EndView Kind) → IsCalmTurn own (sampling now own e)
 sampling-calm now own e =
-    nothing-of own (sampling now own e).own (like-as own (sampling now own e).own refl refl)
+    nothing-of own (sampling now own e).own (like-as own (sampling now own e).own refl refl refl)
 
 -- ---- S6F1
 
@@ -49,7 +49,7 @@ inquired-calm (answer.Body text) body own e =
     go : (crowded : Bool) (next : Option ℕ) → IsLikeIt own (if crowded then own else with_data_inquiry next body own)
     go true next = likes own
     go false None = likes own
-    go false (Some system) = like-as own (with_data_inquiry (Some system) body own) refl refl
+    go false (Some system) = like-as own (with_data_inquiry (Some system) body own) refl refl refl
 inquired-calm answer.TooLong body own e = nothing-of own own (likes own)
 
 data-calm : (body : List ℕ) (own : OwnView) (e : EndView Kind) → IsCalmTurn own (trace_data_turn body own e)
@@ -81,7 +81,11 @@ sampled-calm item own e = go (is_online own)
 with-less : (own other : OwnView) (turn : ToolTurn) → IsLikeIt own other → IsCalmTurn other turn → IsCalmTurn own turn
 with-less own other turn first is = record {
   duties = is.duties;
-  keeps = record { ledger = is.keeps.ledger ∙ first.ledger; reports = λ are. is.keeps.reports (first.reports are) };
+  keeps = record {
+    ledger = is.keeps.ledger ∙ first.ledger;
+    owed = is.keeps.owed ∙ first.owed;
+    reports = λ are. is.keeps.reports (first.reports are);
+  };
 }
 
 pub made-calm : (own : OwnView) (e : EndView Kind) → IsCalmTurn own (made_part own e)
@@ -91,7 +95,7 @@ made-calm own e = go own.tracing.made
     go [] = nothing-of own own (likes own)
     go (item ∷ items) =
         with-less own (with_made items own) (sampled_turn item (with_made items own) e)
-        (like-as own (with_made items own) refl refl) (sampled-calm item (with_made items own) e)
+        (like-as own (with_made items own) refl refl refl) (sampled-calm item (with_made items own) e)
 
 -- ---- one that waits for S6F6
 

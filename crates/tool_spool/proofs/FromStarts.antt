@@ -109,12 +109,14 @@ module _ {S C : Type 0} (machine : Machine S C) (first : Happening) where
   begins-met (Fills input now call) (Reached s notes) begins =
       begins-filled s notes (call_of call (machine.losses s input now)) begins
 
-  pub begins-course : (start : Step S Happening) → start.notes ≡ first ∷ [] → (meetings : List (Meeting C))
+  pub begins-course :
+      (start : Step S Happening) (rest : List Happening) → start.notes ≡ first ∷ rest → (meetings : List (Meeting C))
       → BeginsWith first (notes_of (course_of start machine meetings))
-  begins-course start is [] =
-      subst (λ (notes : List Happening). BeginsWith first (noted_behind notes [])) (sym is) refl
-  begins-course start is (meeting ∷ meetings) =
-      begins-met meeting (course_of start machine meetings) (begins-course start is meetings)
+  begins-course start rest is [] =
+      subst (λ (notes : List Happening). BeginsWith first (noted_behind notes [])) (sym is)
+      (begins-behind first rest (first ∷ []) refl)
+  begins-course start rest is (meeting ∷ meetings) =
+      begins-met meeting (course_of start machine meetings) (begins-course start rest is meetings)
 
 -- ---- so the first start finds what its file holds
 

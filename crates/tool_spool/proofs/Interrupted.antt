@@ -1,9 +1,11 @@
 -- What a loss of power leaves of the list is what a start may find of it, at whichever call of a work it comes.
-use Rattle.std.proofs.Common.{◌≡◌, refl, sym, ap, subst, ◌∙◌, arith, ◌+◌, ◌^◌, ◌≤◌, Bool, true, false, ℕ, List, []}
-use Rattle.std.proofs.Common.{◌∷◌, ◌++◌, append-nil, append_assoc, length, map, Option, if◌then◌else◌}
+use Rattle.std.proofs.Common.{◌≡◌, refl, sym, ap, subst, ◌∙◌, inl, inr, ◌⊎◌, arith, ◌+◌, ◌^◌, ◌≤◌, Bool, true, false, ℕ, List, []}
+use Rattle.std.proofs.Common.{◌∷◌, ◌++◌, append-nil, append_assoc, length, map, Option, Some, None, if◌then◌else◌}
+use Rattle.std.specs.Option.{option_map_or}
 use Rattle.std.specs.Prelude.{sum}
 use Rattle.disk_base.specs.declared.cut.CutChoice.{CutChoice}
 use Rattle.gem_spool.specs.Updates.{Left}
+use Rattle.message_flow.specs.declared.message.Message.{Message as Primary}
 use Rattle.gem_spool.specs.Spool.{room_in}
 use Rattle.gem_spool.specs.Standing.{Standing, count_in}
 use Rattle.gem_spool.specs.Works.{AreDue, AreSized, IsDue, IsSized, count_after, floor_above, list_after, lists_after}
@@ -13,9 +15,10 @@ use Rattle.gem_spool.specs.declared.spool.Room.TheVariants as room
 use Rattle.gem_spool.specs.declared.works.Work.{Work}
 use Rattle.gem_spool.specs.declared.works.Work.TheVariants as work
 use Rattle.gem_spool.proofs.Doing.{count_keeps}
-use Rattle.message_end.specs.Core.{Went}
+use Rattle.message_end.specs.Core.{Went, step_in}
 use Rattle.message_end.specs.Core.Went.{Goes, Spent}
 use Rattle.message_end.specs.Course.{noted_behind}
+use Rattle.setup_store.specs.Entries.{Entry, bytes_of, has_room, is_kept}
 use Rattle.spool_law.specs.Shelf.{IsFoundOf, Shelf, shelf_of}
 use Rattle.spool_file.specs.File.{SpoolFile}
 use Rattle.spool_file.specs.Run.{IsChainFrom}
@@ -25,18 +28,20 @@ use Rattle.spool_file.proofs.Runs.{chain_last}
 use Rattle.spool_slots.specs.Files.{with_gates}
 use Rattle.trace_log.specs.Log.{Happening}
 use Rattle.trace_log.specs.Names.{Spooled}
-use Rattle.spool_works.specs.DiskWorks.{DiskWork, behind_change, standing_behind, up_to_change}
-use Rattle.tool_step.specs.Disk.{read_works, takes_up}
-use Rattle.spool_works.specs.DiskWorks.DiskWork.{Change, ReadOldest, Reserve}
+use Rattle.spool_works.specs.DiskWorks.{DiskWork, behind_change, set_up, standing_behind, up_to_change}
+use Rattle.tool_step.specs.Disk.{keep_works, read_works, takes_up}
+use Rattle.spool_works.specs.DiskWorks.DiskWork.{Change, Keep, ReadOldest, Reserve}
 use Rattle.tool_step.specs.Equipment.{EquipmentView}
 use Rattle.spool_works.specs.Found.{found_in}
-use Rattle.tool_law.proofs.Lawful.{split-change}
+use Rattle.spool_works.proofs.EachFront.{split-change}
+use Rattle.tool_step.specs.Setup.{to_keep}
 use Rattle.tool_step.proofs.LossCalls.{AtEach}
+use Rattle.tool_reports.proofs.QuietNotes.{one-behind}
 use Rattle.spool_works.proofs.EachLoss.{each-work}
 use Rattle.spool_works.proofs.LossCounts.{Each}
 use Rattle.tool_spool.proofs.Chained.{chain-rest}
 use Rattle.message_end.proofs.Growing.{behind-both}
-use Rattle.tool_law.proofs.WorkLines.{Walks}
+use Rattle.tool_law.proofs.WorkLines.{ComesLater, GoesOn, Walks, comes-later, goes-on, has_change}
 use Rattle.spool_works.specs.WorkLosses.{calls_at, storing_at}
 use Rattle.spool_works.proofs.FoundLosses.{Leaves, each-call}
 use Rattle.spool_ledger.specs.Sizes.{oldest_of}
@@ -135,6 +140,17 @@ module _ (slots : ℕ) where
 
   pub after-reserve : (st : Standing) → StandsWell slots st → StandsWell slots (reserved st)
   after-reserve st is = record {
+    first = is.first;
+    chain = is.chain;
+    room = is.room;
+    bound = is.bound;
+    floor = is.floor;
+    slots_are = is.slots_are;
+  }
+
+  -- and a setup is kept
+  after-keep : (bytes : List ℕ) (st : Standing) → StandsWell slots st → StandsWell slots (set_up bytes st)
+  after-keep bytes st is = record {
     first = is.first;
     chain = is.chain;
     room = is.room;
@@ -265,32 +281,130 @@ module _ (slots : ℕ) where
         go false = tt
     read-found (Spent step) st front lines stands is = tt
 
-    pub works-found :
-        (works : List Work) (went : Went EquipmentView Happening) (st : Standing) (front lines : List Happening)
-        → AreDue (count_in st) works → AreSized st.next st.file.list works → StandsWell slots st
-        → Walks st.next st.file.list (noted_behind front base) works lines
+    -- ---- where a change of the setup is kept
+
+    -- with this primary, which is one of those that are kept, this list is kept, for which there is room
+    pub record IsKeptWith (went : Went EquipmentView Happening) (message : Primary) : Type 0 where
+      pub list : List Entry
+      pub setup : (step_in went).next.node.own.setup ≡ Some list
+      pub works : keep_works went ≡ Keep (bytes_of list) ∷ []
+      pub room : has_room (bytes_of list) ≡ true
+      pub kind : is_kept message.stream message.function ≡ true
+
+    -- its two lines stand behind those of the spool; where there are none, nothing is kept
+    abbrev pub IsTail : Went EquipmentView Happening → List Happening → Type 0
+    IsTail went tail =
+        ((tail ≡ []) × (keep_works went ≡ []))
+        ⊎ ((message : Primary) × (tail ≡ Happening.Keeping message ∷ Happening.Kept message ∷ [])
+        × IsKeptWith went message)
+
+    keep-found :
+        (went : Went EquipmentView Happening) (st : Standing) (front lines tail : List Happening)
+        → has_change lines ≡ false → IsTail went tail
         → WhereGoes went
-        ((shelf_of (noted_behind (front ++ lines) base)).stands ≡ found_in (lists_after st.next st.file.list works))
-        → AtEach FoundAt st front (map Change works ++ read_works went) lines
-    works-found [] went st front lines due sized is walks stands = read-found went st front lines stands is
-    works-found (one ∷ works) went st front lines due sized is walks stands = (
-      subst (λ (ns : List Happening). Each (FoundIn (shelf_of ns)) (calls_at st (Change one))) (sym here)
-          (each-found st.file.list (storing_at st.next (Change one)) shelf (calls_at st (Change one)) walks.1.stands
-          walks.1.storing (each-call st (Change one) shelf.leaving walks.1.leaving)
-          (call-well st (Change one) is (after-well st one due.0 is))),
-      works-found works went (standing_after st one) (front ++ up_to_change lines) (behind_change lines)
-          (due-behind st one works sized.0 due.1) sized.1
-          (after-well st one due.0 is)
-          (subst
-          (λ (ns : List Happening).
-          Walks (next_after st.next one) (list_after st.next st.file.list one) ns works (behind_change lines))
-          (sym here)
-          walks.2)
-          (where-as went _ _ (λ same.
-          ap (λ (ns : List Happening). (shelf_of (noted_behind ns base)).stands) (sym whole) ∙ same)
-          stands),
-    )
+        ((shelf_of (noted_behind (front ++ (lines ++ tail)) base)).stands ≡ found_in st.file.list)
+        → StandsWell slots st
+        → AtEach FoundAt st front (keep_works went ++ read_works went) (lines ++ tail)
+    keep-found went st front lines tail none (inl (no_tail, no_works)) stands is =
+        subst
+        (λ (works : List DiskWork). AtEach FoundAt st front (works ++ read_works went) (lines ++ tail))
+        (sym no_works) (read-found went st front (lines ++ tail) stands is)
+    keep-found (Spent step) st front lines tail none (inr kept) stands is = tt
+    keep-found (Goes step) st front lines tail none (inr (message, is_tail, kept)) stands is =
+        subst
+        (λ (t : List Happening).
+        AtEach FoundAt st front (keep_works (Goes step) ++ read_works (Goes step)) (lines ++ t)) (sym is_tail)
+        (go (to_keep step.next.node.own))
       where
+        two : List Happening
+        two = Happening.Keeping message ∷ Happening.Kept message ∷ []
+
+        all : List Happening
+        all = lines ++ two
+
+        upto : List Happening
+        upto = front ++ up_to_change all
+
+        later : ComesLater lines two
+        later = comes-later lines two none
+
+        whole : front ++ all ≡ upto ++ behind_change all
+        whole =
+            ap (λ (ns : List Happening). front ++ ns) (split-change all)
+            ∙ sym (append_assoc front (up_to_change all) (behind_change all))
+
+        ended : (shelf_of (noted_behind (upto ++ behind_change all) base)).stands ≡ found_in st.file.list
+        ended =
+            ap (λ (ns : List Happening). (shelf_of (noted_behind ns base)).stands) (sym whole)
+            ∙ ap (λ (t : List Happening). (shelf_of (noted_behind (front ++ (lines ++ t)) base)).stands) (sym is_tail)
+            ∙ stands
+
+        -- the last line says nothing of the list
+        stood : (shelf_of (noted_behind upto base)).stands ≡ found_in st.file.list
+        stood =
+            ap (λ (ns : List Happening). (shelf_of ns).stands) (sym (one-behind upto (Happening.Kept message) base))
+            ∙ ap (λ (ns : List Happening). (shelf_of (noted_behind (upto ++ ns) base)).stands) (sym later.2)
+            ∙ ended
+
+        go : (kept : Option (List ℕ))
+            → AtEach FoundAt st front
+            (option_map_or (λ (bytes : List ℕ). Keep bytes ∷ []) kept [] ++ read_works (Goes step)) all
+        go None =
+            read-found (Goes step) st front all
+            (ap (λ (ns : List Happening). (shelf_of (noted_behind ns base)).stands) whole ∙ ended) is
+        go (Some bytes) =
+            let same = rest-found (shelf_of (noted_behind upto base)) st stood is in
+            let more =
+            rest-found (shelf_of (noted_behind upto base)) (set_up bytes st) stood (after-keep bytes st is) in (
+              each-work (IsFoundAt (shelf_of (noted_behind upto base))) st (Keep bytes) same
+                  (λ gates. record { found = same.found; well = gates-well st gates is }) more,
+              read-found (Goes step) (set_up bytes st) upto (behind_change all) ended (after-keep bytes st is),
+            )
+
+    pub works-found :
+        (works : List Work) (went : Went EquipmentView Happening) (st : Standing) (front lines tail : List Happening)
+        → AreDue (count_in st) works → AreSized st.next st.file.list works → StandsWell slots st
+        → Walks st.next st.file.list (noted_behind front base) works lines → IsTail went tail
+        → WhereGoes went
+        ((shelf_of (noted_behind (front ++ (lines ++ tail)) base)).stands
+        ≡ found_in (lists_after st.next st.file.list works))
+        → AtEach FoundAt st front (map Change works ++ keep_works went ++ read_works went) (lines ++ tail)
+    works-found [] went st front lines tail due sized is walks is_tail stands =
+        keep-found went st front lines tail walks is_tail stands is
+    works-found (one ∷ works) went st front lines tail due sized is walks is_tail stands =
+        subst
+        (λ (upto : List Happening).
+        Each (FoundAt (front ++ upto)) (calls_at st (Change one))
+        × AtEach FoundAt (standing_after st one) (front ++ upto) rest (behind_change (lines ++ tail)))
+        (sym on.1)
+        (subst
+        (λ (behind : List Happening).
+        Each (FoundAt (front ++ up_to_change lines)) (calls_at st (Change one))
+        × AtEach FoundAt (standing_after st one) (front ++ up_to_change lines) rest behind)
+        (sym on.2) (
+          subst (λ (ns : List Happening). Each (FoundIn (shelf_of ns)) (calls_at st (Change one))) (sym here)
+              (each-found st.file.list (storing_at st.next (Change one)) shelf (calls_at st (Change one))
+              walks.1.stands walks.1.storing (each-call st (Change one) shelf.leaving walks.1.leaving)
+              (call-well st (Change one) is (after-well st one due.0 is))),
+          works-found works went (standing_after st one) (front ++ up_to_change lines) (behind_change lines) tail
+              (due-behind st one works sized.0 due.1) sized.1
+              (after-well st one due.0 is)
+              (subst
+              (λ (ns : List Happening).
+              Walks (next_after st.next one) (list_after st.next st.file.list one) ns works (behind_change lines))
+              (sym here)
+              walks.2) is_tail
+              (where-as went _ _ (λ same.
+              ap (λ (ns : List Happening). (shelf_of (noted_behind ns base)).stands) (sym whole) ∙ same)
+              stands),
+        ))
+      where
+        rest : List DiskWork
+        rest = map Change works ++ keep_works went ++ read_works went
+
+        on : GoesOn lines tail
+        on = goes-on lines tail walks.0
+
         shelf : Shelf
         shelf = shelf_of (noted_behind (up_to_change lines) (noted_behind front base))
 
@@ -298,10 +412,12 @@ module _ (slots : ℕ) where
             ≡ noted_behind (up_to_change lines) (noted_behind front base)
         here = behind-both front (up_to_change lines) base
 
-        whole : front ++ lines ≡ (front ++ up_to_change lines) ++ behind_change lines
+        whole : front ++ (lines ++ tail) ≡ (front ++ up_to_change lines) ++ (behind_change lines ++ tail)
         whole =
-            ap (λ (ns : List Happening). front ++ ns) (split-change lines)
-            ∙ sym (append_assoc front (up_to_change lines) (behind_change lines))
+            ap (λ (ns : List Happening). front ++ (ns ++ tail)) (split-change lines)
+            ∙ ap (λ (ns : List Happening). front ++ ns)
+            (append_assoc (up_to_change lines) (behind_change lines) tail)
+            ∙ sym (append_assoc front (up_to_change lines) (behind_change lines ++ tail))
 
     -- where system bytes are reserved first
     pub reserve-found :

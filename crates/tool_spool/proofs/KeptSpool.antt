@@ -3,7 +3,7 @@ use Rattle.std.proofs.Common.{◌≡◌, refl, sym, ap, subst, ◌∙◌, inl, i
 use Rattle.std.proofs.Common.{true, false, ℕ, List, [], ◌∷◌, ◌++◌, length, Option, Some, None, if◌then◌else◌}
 use Rattle.std.proofs.lemmas.List.Elements.{All-nil}
 use Rattle.trace_log.specs.declared.commands.ToolCommand.{ToolCommand}
-use Rattle.trace_log.specs.Log.{Happening, is_before_change}
+use Rattle.trace_log.specs.Log.{Happening}
 use Rattle.message_end.specs.Core.{Went, at_first, step_in, EndView, noted}
 use Rattle.transact.specs.Numbers.{numbers_from}
 use Rattle.message_end.specs.Core.Went.{Goes, Spent}
@@ -34,7 +34,8 @@ use Rattle.equipment_tables.specs.Laws.{TablesAreLookedBackFor}
 use Rattle.equipment_tables.specs.Plan.{EquipmentPlanFits}
 use Rattle.tool_step.specs.End.{machine}
 use Rattle.tool_step.specs.Equipment.{unstarted, EquipmentView, act, begun_step, is_marked_out, needs_numbers, new_own, restarts}
-use Rattle.tool_step.specs.Equipment.{settled_list, started_on}
+use Rattle.tool_step.specs.Equipment.{settled_list, setup_lines, started_on}
+use Rattle.tool_step.specs.Setup.{setup_in}
 use Rattle.spool_works.specs.Found.{first_in, found_in, spooled_of}
 use Rattle.tool_step.specs.Disk.{owed_in, standing_in, works_behind, works_of as step_works}
 use Rattle.spool_works.specs.DiskWorks.DiskWork.{Reserve}
@@ -55,7 +56,7 @@ use Rattle.tool_spool.specs.MadeRoom.{IsRoomUsed, LeavesNoRoom, OverwritesForPut
 use Rattle.tool_spool.specs.SpoolKept.{MayHold, SpoolIsKept, SpoolIsKeptFrom, policy_of, used_in}
 use Rattle.tool_step.specs.Step.{end_plan}
 use Rattle.tool_step.specs.declared.kind.Kind.{Kind}
-use Rattle.tool_step.proofs.StepFiles.{act-slots, act-version, begun-file, ended-file}
+use Rattle.tool_step.proofs.StepFiles.{act-slots, act-version, begun-file, ended-file, works-same}
 use Rattle.tool_reports.proofs.QuietReports.{Holds}
 use Rattle.tool_reports.proofs.Reporting.{IsCourseSo as IsReported, course-so as course-reported}
 use Rattle.tool_spool.proofs.ShelvedTurns.{Shelves}
@@ -63,9 +64,10 @@ use Rattle.message_end.proofs.Growing.{behind-both}
 use Rattle.tool_law.proofs.WorkLines.{Walks, same-lines}
 use Rattle.message_end.proofs.Parts.{OnEither}
 use Rattle.spool_ledger.proofs.Widths.{sized-by, used-is, widths-long}
-use Rattle.tool_spool.proofs.TakenTurns.{full-so}
-use Rattle.tool_spool.proofs.KeptStarts.{rebased, begun-both, IsBegunSo, begun-so, IsDone, IsKeptFile, step-both}
-use Rattle.tool_spool.proofs.KeptStarts.{step-lines, finds-all, started-shelves}
+use Rattle.tool_spool.proofs.KeptSetups.{AreAside, over-note, setup-aside}
+use Rattle.tool_spool.proofs.RestedShelves.{finds-all, rebased, started-shelves}
+use Rattle.tool_spool.proofs.KeptStarts.{begun-both, IsBegunSo, begun-so, IsDone, IsKeptFile, step-both}
+use Rattle.tool_spool.proofs.KeptStarts.{step-lines}
 use Rattle.tool_spool.proofs.Chained.{first-chain, first-most}
 
 module _ (plan : EquipmentPlan) (fits : EquipmentPlanFits plan) (looked : TablesAreLookedBackFor) (slots : ℕ) where
@@ -83,13 +85,14 @@ module _ (plan : EquipmentPlan) (fits : EquipmentPlanFits plan) (looked : Tables
   IsCourseKept (Stopped notes) = KeepsOn (policy_of plan slots) notes
 
   went-so :
-      (said : List ToolCommand) (before : List Happening) (went : Went EquipmentView Happening)
-      → OnEither ((IsDone plan fits looked slots) said before) ((IsKeptFile plan fits looked slots) before) went
+      (start : List Happening) (said : List ToolCommand) (before : List Happening) (went : Went EquipmentView Happening)
+      → OnEither ((IsDone plan fits looked start slots) said before) ((IsKeptFile plan fits looked start slots) before)
+      went
       → (step_in went).next.file.slots ≡ slots → (step_in went).next.file.version ≡ 2
       → (step_in went).next.file.floor.value ≤ 2 ^ 63 + 65535 → IsCourseKept (went_on went before)
-  went-so said before (Goes step) at same version low = record {
+  went-so start said before (Goes step) at same version low = record {
     shelves =
-        (rebased plan fits looked slots) step.next.file.list at.base before (noted_behind step.notes before)
+        rebased plan slots step.next.file.list at.base before (noted_behind step.notes before)
         step.next.node.own step.next.node.core
         (noted_behind step.notes before) at.none at.both.1;
     none = at.none;
@@ -97,13 +100,35 @@ module _ (plan : EquipmentPlan) (fits : EquipmentPlanFits plan) (looked : Tables
     version = version;
     floor = low;
   }
-  went-so said before (Spent step) at same version low = at
+  went-so start said before (Spent step) at same version low = at
 
   -- the list as the file has it
   file-list : (v : LedgerView) (list : List Put) → v.works ≡ [] → settled_list v list ≡ list
   file-list v list none = ap (λ (works : List Work). lists_after (stood_count v).next list works) none
 
   module _ (some : 0 < slots) (most : slots < 2 ^ 16) where
+    noted-so :
+        (s : EquipmentView) (notes : List Happening) (what : Happening) → change_of what ≡ Other → IsSpoolSo s notes
+        → IsSpoolSo s (what ∷ notes)
+    noted-so s notes what other so = record {
+      shelves =
+          rebased plan slots s.file.list (what ∷ notes) notes (what ∷ notes) s.node.own s.node.core (what ∷ notes)
+          so.none (over-note plan slots s.file.list notes notes s.node.own s.node.core what notes other so.none
+          so.shelves);
+      none = so.none;
+      slots_are = so.slots_are;
+      version = so.version;
+      floor = so.floor;
+    }
+
+    -- lines of a setup
+    setup-so :
+        (s : EquipmentView) (lines notes : List Happening) → AreAside lines → IsSpoolSo s notes
+        → IsSpoolSo s (noted_behind lines notes)
+    setup-so s [] notes are so = so
+    setup-so s (what ∷ lines) notes are so =
+        setup-so s lines (what ∷ notes) are.1 (noted-so s notes what are.0 so)
+
     started-so :
         (other : EquipmentPlan) (file : SpoolFile) (notes : List Happening) → other ≡ plan → file.slots ≡ slots
         → KeepsOn (policy_of plan slots) (Happening.EquipmentStarted (found_in file.list) file.mark.value ∷ notes)
@@ -114,19 +139,21 @@ module _ (plan : EquipmentPlan) (fits : EquipmentPlanFits plan) (looked : Tables
         subst
         (λ (p : EquipmentPlan). IsSpoolSo (started_on p file).next (noted_behind (started_on p file).notes notes))
         (sym same)
-        (record {
+        (setup-so (started_on plan file).next (setup_lines plan (setup_in file)) started
+        (setup-aside plan (setup_in file)) (record {
           shelves =
               subst
               (λ (n : ℕ).
               Shelves plan slots file.list started started
-              (new_own plan (new_ledger n (first_in file) (map width file.list))) core started) (sym all)
-              ((started-shelves plan fits looked slots) file.list (first_in file) file.mark.value started notes some
-              most kept chain room bound);
+              (new_own plan (setup_in file) (new_ledger n (first_in file) (map width file.list))) core started)
+              (sym all)
+              (started-shelves plan slots (setup_in file) file.list (first_in file) file.mark.value
+              started notes some most kept chain room bound);
           none = refl;
           slots_are = all;
           version = refl;
           floor = low;
-        })
+        }))
       where
         started : List Happening
         started = Happening.EquipmentStarted (found_in file.list) file.mark.value ∷ notes
@@ -134,24 +161,10 @@ module _ (plan : EquipmentPlan) (fits : EquipmentPlanFits plan) (looked : Tables
         core : EndView Kind
         core = new_end (end_plan plan) (numbers_from file.mark.value 4096)
 
-    noted-so :
-        (s : EquipmentView) (notes : List Happening) (what : Happening) → change_of what ≡ Other
-        → is_before_change what ≡ false → IsSpoolSo s notes → IsSpoolSo s (what ∷ notes)
-    noted-so s notes what other aside so = record {
-      shelves =
-          (rebased plan fits looked slots) s.file.list notes notes (what ∷ notes) s.node.own s.node.core (what ∷ notes)
-          so.none (full-so plan slots s.file.list notes notes s.node.own what (at_first s.node.core) other aside
-          so.shelves);
-      none = so.none;
-      slots_are = so.slots_are;
-      version = so.version;
-      floor = so.floor;
-    }
-
     -- ---- power is lost at a call of the disk
 
-    module _ (said : List ToolCommand) (before : List Happening) (input : Input ToolCommand) (now : ℕ)
-        (s : EquipmentView) (holds : Holds plan said s.node.own s.node.core.drawn before)
+    module _ (start : List Happening) (said : List ToolCommand) (before : List Happening) (input : Input ToolCommand)
+        (now : ℕ) (s : EquipmentView) (holds : Holds plan start said s.node.own s.node.core.drawn before)
         (good : IsGoodView plan fits s) (so : IsSpoolSo s before)
       where
         abbrev went : Went EquipmentView Happening
@@ -167,10 +180,10 @@ module _ (plan : EquipmentPlan) (fits : EquipmentPlanFits plan) (looked : Tables
         abbrev v : LedgerView
         v = (step_in went).next.node.own.ledger
 
-        begun-is : (IsBegunSo plan fits looked slots) before went
+        begun-is : (IsBegunSo plan fits looked start slots) before went
         begun-is =
-            (begun-so plan fits looked slots) (with_command input said) before went
-            ((begun-both plan fits looked slots) said before input now s holds so.shelves)
+            (begun-so plan fits looked start slots) (with_command input said) before went
+            ((begun-both plan fits looked start slots) said before input now s holds so.shelves)
 
         same : settled_list w s.file.list ≡ s.file.list
         same = file-list w s.file.list so.none
@@ -238,21 +251,30 @@ module _ (plan : EquipmentPlan) (fits : EquipmentPlanFits plan) (looked : Tables
             (subst (λ (n : ℕ). AreDue (counted 2 slots n (length v.stood.sizes) (sum v.stood.sizes)) v.works) next-is
             begun-is.due))))
 
-        walks : Walks (next_of w) s.file.list before v.works notes
+        -- the lines of the list, and those of a setup that is kept
+        abbrev lines : List Happening
+        lines = begun-is.lines.lines
+
+        abbrev tail : List Happening
+        tail = begun-is.lines.tail
+
+        whole : notes ≡ lines ++ tail
+        whole = same-lines notes (lines ++ tail) before begun-is.lines.noted
+
+        walks : Walks (next_of w) s.file.list before v.works lines
         walks =
-            subst (λ (ls : List Happening). Walks (next_of w) s.file.list before v.works ls)
-            (sym (same-lines notes begun-is.lines.lines before begun-is.lines.noted))
-            (subst (λ (list : List Put). Walks (next_of w) list before v.works begun-is.lines.lines) stays.0
-            (subst
-            (λ (n : ℕ). Walks n (step_in went).next.file.list before v.works begun-is.lines.lines) next-is
-            begun-is.lines.walks))
+            subst (λ (list : List Put). Walks (next_of w) list before v.works lines) stays.0
+            (subst (λ (n : ℕ). Walks n (step_in went).next.file.list before v.works lines) next-is
+            begun-is.lines.walks)
 
         ended : WhereGoes slots before went
-            ((shelf_of (noted_behind notes before)).stands ≡ found_in (lists_after (next_of w) s.file.list v.works))
+            ((shelf_of (noted_behind (lines ++ tail) before)).stands
+            ≡ found_in (lists_after (next_of w) s.file.list v.works))
         ended =
             where-as slots before went _ _
             (λ is.
-            is ∙ ap (λ (n : ℕ). found_in (lists_after n (step_in went).next.file.list v.works)) next-is
+            ap (λ (ns : List Happening). (shelf_of (noted_behind ns before)).stands) (sym whole)
+            ∙ is ∙ ap (λ (n : ℕ). found_in (lists_after n (step_in went).next.file.list v.works)) next-is
             ∙ ap (λ (list : List Put). found_in (lists_after (next_of w) list v.works)) stays.0)
             begun-is.stands
 
@@ -260,17 +282,22 @@ module _ (plan : EquipmentPlan) (fits : EquipmentPlanFits plan) (looked : Tables
         -- find
         lost-so : KeepsOn (policy_of plan slots) (noted_behind notes before)
             × AtEach (FoundAt slots before) (standing_in s) [] (step_works s input now) notes
-        lost-so = (begun-is.kept, go (needs_numbers s && not (is_marked_out s.file.mark.value)))
+        lost-so = (
+          begun-is.kept,
+          subst (AtEach (FoundAt slots before) (standing_in s) [] (step_works s input now)) (sym whole)
+              (go (needs_numbers s && not (is_marked_out s.file.mark.value))),
+        )
           where
             go : (reserves : Bool)
                 → AtEach (FoundAt slots before) (standing_in s) []
-                ((if reserves then Reserve ∷ [] else []) ++ works_behind went) notes
+                ((if reserves then Reserve ∷ [] else []) ++ works_behind went) (lines ++ tail)
             go true =
-                reserve-found slots before (standing_in s) (works_behind went) notes stands well
-                (works-found slots before v.works went (marked (standing_in s)) [] notes due sized
-                (after-reserve slots (standing_in s) well) walks ended)
+                reserve-found slots before (standing_in s) (works_behind went) (lines ++ tail) stands well
+                (works-found slots before v.works went (marked (standing_in s)) [] lines tail due sized
+                (after-reserve slots (standing_in s) well) walks begun-is.lines.is_tail ended)
             go false =
-                works-found slots before v.works went (standing_in s) [] notes due sized well walks ended
+                works-found slots before v.works went (standing_in s) [] lines tail due sized well walks
+                begun-is.lines.is_tail ended
 
         -- the works leave the spool well, whether system bytes were reserved before them or not
         abbrev EndsWell : SpoolFile → Type 0
@@ -278,7 +305,10 @@ module _ (plan : EquipmentPlan) (fits : EquipmentPlanFits plan) (looked : Tables
 
         floor-so : (step_in (act s input now)).next.file.floor.value ≤ 2 ^ 63 + 65535
         floor-so =
-            subst (λ (file : SpoolFile). file.floor.value ≤ 2 ^ 63 + 65535) (sym (ended-file went now))
+            subst (λ (n : ℕ). n ≤ 2 ^ 63 + 65535)
+            (sym
+            (ap (λ (file : SpoolFile). file.floor.value) (ended-file went now)
+            ∙ works-same (λ (file : SpoolFile). file.floor.value) went (λ bytes other. refl)))
             (subst
             (λ (n : ℕ).
             (standings_after (record { next = n; file = (step_in went).next.file }) v.works).file.floor.value
@@ -290,12 +320,9 @@ module _ (plan : EquipmentPlan) (fits : EquipmentPlanFits plan) (looked : Tables
         -- the lines of a step up to its works tell of these: each work stands between its two lines
         told-so : AreInPairs (standing_in s).next s.file.list v.works (changes_in notes)
         told-so =
-            subst (λ (lines : List Happening). AreInPairs (next_of w) s.file.list v.works (changes_in lines))
-            (sym (same-lines notes begun-is.told.lines before begun-is.told.noted))
-            (subst (λ (list : List Put). AreInPairs (next_of w) list v.works (changes_in begun-is.told.lines)) stays.0
-            (subst
-            (λ (n : ℕ). AreInPairs n (step_in went).next.file.list v.works (changes_in begun-is.told.lines)) next-is
-            begun-is.told.pairs))
+            subst (λ (list : List Put). AreInPairs (next_of w) list v.works (changes_in notes)) stays.0
+            (subst (λ (n : ℕ). AreInPairs n (step_in went).next.file.list v.works (changes_in notes)) next-is
+            begun-is.pairs)
 
         -- and so do the lines of all of it
         pairs-of-step : ArePairsOfStep s input now
@@ -303,21 +330,21 @@ module _ (plan : EquipmentPlan) (fits : EquipmentPlanFits plan) (looked : Tables
           by_then = told-so;
           in_all =
               subst (AreInPairs (standing_in s).next s.file.list (owed_in (begun_step s input now)))
-              (sym ((step-lines plan fits looked slots) said before input now s holds so.shelves good)) told-so;
+              (sym ((step-lines plan fits looked start slots) said before input now s holds so.shelves good)) told-so;
         }
 
     -- so do those at a call of the disk
     kept-at-call :
-        (input : Input ToolCommand) (now : ℕ) (said : List ToolCommand) (s : EquipmentView) (notes : List Happening)
-        (loss : Loss EquipmentView) → Has (losses s input now) loss
-        → Holds plan said s.node.own s.node.core.drawn notes → IsGoodView plan fits s → IsSpoolSo s notes
+        (input : Input ToolCommand) (now : ℕ) (start : List Happening) (said : List ToolCommand) (s : EquipmentView)
+        (notes : List Happening) (loss : Loss EquipmentView) → Has (losses s input now) loss
+        → Holds plan start said s.node.own s.node.core.drawn notes → IsGoodView plan fits s → IsSpoolSo s notes
         → KeepsOn (policy_of plan slots) (noted_behind loss.front notes)
-    kept-at-call input now said s notes loss has holds good so =
+    kept-at-call input now start said s notes loss has holds good so =
         kept-before (policy_of plan slots) first.rest (noted_behind loss.front notes)
         (some-behind loss.front notes (some-kept (policy_of plan slots) notes so.shelves.shelved.kept))
         (subst (KeepsOn (policy_of plan slots))
         (ap (λ (ns : List Happening). noted_behind ns notes) first.whole ∙ behind-both loss.front first.rest notes)
-        (lost-so said notes input now s holds good so).0)
+        (lost-so start said notes input now s holds good so).0)
       where
         first : IsFront loss.front (step_in (begun_step s input now)).notes
         first =
@@ -326,33 +353,35 @@ module _ (plan : EquipmentPlan) (fits : EquipmentPlanFits plan) (looked : Tables
 
     -- no place is left there that was made for a put
     used-at-call :
-        (input : Input ToolCommand) (now : ℕ) (said : List ToolCommand) (s : EquipmentView) (notes : List Happening)
-        (loss : Loss EquipmentView) → Has (losses s input now) loss
-        → Holds plan said s.node.own s.node.core.drawn notes → IsGoodView plan fits s → IsSpoolSo s notes
+        (input : Input ToolCommand) (now : ℕ) (start : List Happening) (said : List ToolCommand) (s : EquipmentView)
+        (notes : List Happening) (loss : Loss EquipmentView) → Has (losses s input now) loss
+        → Holds plan start said s.node.own s.node.core.drawn notes → IsGoodView plan fits s → IsSpoolSo s notes
         → IsRoomUsed (noted_behind loss.front notes)
-    used-at-call input now said s notes loss has holds good so =
+    used-at-call input now start said s notes loss has holds good so =
         fronts-used notes (step_works s input now) [] (step_in (begun_step s input now)).notes loss.front
         so.shelves.shelved.closed
-        ((begun-so plan fits looked slots) (with_command input said) notes (begun_step s input now)
-        ((begun-both plan fits looked slots) said notes input now s holds so.shelves)).closed
+        ((begun-so plan fits looked start slots) (with_command input said) notes (begun_step s input now)
+        ((begun-both plan fits looked start slots) said notes input now s holds so.shelves)).closed
         ((losses-counted s input now).1 loss has)
 
     filled-so :
-        (input : Input ToolCommand) (now call : ℕ) (said : List ToolCommand) (s : EquipmentView)
-        (notes : List Happening) (found : Option (Loss EquipmentView)) → call_of call (losses s input now) ≡ found
-        → Holds plan said s.node.own s.node.core.drawn notes → IsGoodView plan fits s → IsSpoolSo s notes
+        (input : Input ToolCommand) (now call : ℕ) (start : List Happening) (said : List ToolCommand)
+        (s : EquipmentView) (notes : List Happening) (found : Option (Loss EquipmentView))
+        → call_of call (losses s input now) ≡ found
+        → Holds plan start said s.node.own s.node.core.drawn notes → IsGoodView plan fits s → IsSpoolSo s notes
         → IsCourseKept (filled_at s notes found)
-    filled-so input now call said s notes None is holds good so = so
-    filled-so input now call said s notes (Some loss) is holds good so =
-        kept-at-call input now said s notes loss (has-call call (losses s input now) loss is) holds good so
+    filled-so input now call start said s notes None is holds good so = so
+    filled-so input now call start said s notes (Some loss) is holds good so =
+        kept-at-call input now start said s notes loss (has-call call (losses s input now) loss is) holds good so
 
     broken-so :
-        (input : Input ToolCommand) (now call : ℕ) (choice : CutChoice) (said : List ToolCommand) (s : EquipmentView)
-        (notes : List Happening) (found : Option (Loss EquipmentView)) → call_of call (losses s input now) ≡ found
-        → Holds plan said s.node.own s.node.core.drawn notes → IsGoodView plan fits s → IsSpoolSo s notes
+        (input : Input ToolCommand) (now call : ℕ) (choice : CutChoice) (start : List Happening)
+        (said : List ToolCommand) (s : EquipmentView) (notes : List Happening) (found : Option (Loss EquipmentView))
+        → call_of call (losses s input now) ≡ found
+        → Holds plan start said s.node.own s.node.core.drawn notes → IsGoodView plan fits s → IsSpoolSo s notes
         → IsCourseKept (broken_at machine now choice s notes found)
-    broken-so input now call choice said s notes None is holds good so = so
-    broken-so input now call choice said s notes (Some loss) is holds good so =
+    broken-so input now call choice start said s notes None is holds good so = so
+    broken-so input now call choice start said s notes (Some loss) is holds good so =
         subst
         (λ (left : EquipmentView).
         IsCourseKept (went_on (restarts left now) (Happening.Power ∷ noted_behind loss.front notes)))
@@ -364,7 +393,7 @@ module _ (plan : EquipmentPlan) (fits : EquipmentPlanFits plan) (looked : Tables
         lost : KeepsOn (policy_of plan slots) (noted_behind (step_in (begun_step s input now)).notes notes)
             × AtEach (FoundAt slots notes) (standing_in s) [] (step_works s input now)
             (step_in (begun_step s input now)).notes
-        lost = lost-so said notes input now s holds good so
+        lost = lost-so start said notes input now s holds good so
 
         at : IsAtCall (FoundAt slots notes) s loss
         at =
@@ -378,10 +407,10 @@ module _ (plan : EquipmentPlan) (fits : EquipmentPlanFits plan) (looked : Tables
         is-found = at.at choice
 
         kept : KeepsOn (policy_of plan slots) (noted_behind loss.front notes)
-        kept = kept-at-call input now said s notes loss has holds good so
+        kept = kept-at-call input now start said s notes loss has holds good so
 
         used : IsRoomUsed (noted_behind loss.front notes)
-        used = used-at-call input now said s notes loss has holds good so
+        used = used-at-call input now start said s notes loss has holds good so
 
         go : (spent : Bool)
             → IsCourseKept
@@ -406,9 +435,11 @@ module _ (plan : EquipmentPlan) (fits : EquipmentPlanFits plan) (looked : Tables
         → IsCourseKept (with_meeting machine meeting course)
     meeting-so meeting said (Stopped notes) reported so = so
     meeting-so (Acts input now) said (Reached s notes) reported so =
-        went-so (with_command input said) notes (act s input now)
-        ((step-both plan fits looked slots) said notes input now s reported.holds so.shelves reported.good)
-        (act-slots s input now ∙ so.slots_are) (act-version s input now ∙ so.version) (floor-so said notes input now s reported.holds reported.good so)
+        went-so reported.start (with_command input said) notes (act s input now)
+        ((step-both plan fits looked reported.start slots) said notes input now s reported.holds so.shelves
+        reported.good)
+        (act-slots s input now ∙ so.slots_are) (act-version s input now ∙ so.version)
+        (floor-so reported.start said notes input now s reported.holds reported.good so)
     meeting-so (Restarts now) said (Reached s notes) reported so = go (is_marked_out s.file.mark.value)
       where
         v : LedgerView
@@ -440,7 +471,7 @@ module _ (plan : EquipmentPlan) (fits : EquipmentPlanFits plan) (looked : Tables
         go false =
             started-so s.node.own.plan s.file notes reported.holds.plan_is so.slots_are
             (inr (
-              (finds-all plan fits looked slots) notes s.file.list (so.shelves.shelved.stands ∙ ap found_in same),
+              finds-all plan slots notes s.file.list (so.shelves.shelved.stands ∙ ap found_in same),
               inl so.shelves.shelved.closed,
               tt,
               so.shelves.shelved.kept,
@@ -449,16 +480,17 @@ module _ (plan : EquipmentPlan) (fits : EquipmentPlanFits plan) (looked : Tables
             (first-most s.file.floor.value v.first (next_of v) (2 ^ 63 + 65535) s.file.list chain so.shelves.is.bound
             so.floor) so.floor
     meeting-so (Writes characters) said (Reached s notes) reported so =
-        noted-so s notes (Happening.Wrote characters) refl refl so
-    meeting-so LosesPower said (Reached s notes) reported so = noted-so s notes Happening.Power refl refl so
+        noted-so s notes (Happening.Wrote characters) refl so
+    meeting-so LosesPower said (Reached s notes) reported so = noted-so s notes Happening.Power refl so
     meeting-so (Breaks input now call choice) said (Reached s notes) reported so =
-        broken-so input now call choice said s notes (call_of call (losses s input now)) refl reported.holds
-        reported.good so
+        broken-so input now call choice reported.start said s notes (call_of call (losses s input now)) refl
+        reported.holds reported.good so
     meeting-so (Fills input now call) said (Reached s notes) reported so =
-        filled-so input now call said s notes (call_of call (losses s input now)) refl reported.holds reported.good so
+        filled-so input now call reported.start said s notes (call_of call (losses s input now)) refl reported.holds
+        reported.good so
 
     module _ (file : SpoolFile) (all : file.slots ≡ slots) (may : MayHold file) where
-      course-kept : (meetings : List (Meeting ToolCommand))
+      pub course-kept : (meetings : List (Meeting ToolCommand))
           → IsCourseKept (course_of (started_on plan file) machine meetings)
       course-kept [] =
           started-so plan file [] refl all (inl (record { found = found_in file.list; is = refl; alone = refl }))
@@ -479,7 +511,8 @@ module _ (plan : EquipmentPlan) (fits : EquipmentPlanFits plan) (looked : Tables
 
           go : (course : Course EquipmentView) → IsReported plan fits looked said course → IsCourseKept course
               → TellsWorks course input now
-          go (Reached s notes) reported so = pairs-of-step said notes input now s reported.holds reported.good so
+          go (Reached s notes) reported so =
+              pairs-of-step reported.start said notes input now s reported.holds reported.good so
           go (Stopped notes) reported so = tt
 
       kept-on : (meetings : List (Meeting ToolCommand))
@@ -518,7 +551,7 @@ module _ (plan : EquipmentPlan) (fits : EquipmentPlanFits plan) (looked : Tables
           kept-from (policy_of plan slots) (found_in file.list) file.mark.value
           (notes_of (course_of (started_on plan file) machine meetings))
           (begins-course machine (Happening.EquipmentStarted (found_in file.list) file.mark.value)
-          (started_on plan file) refl meetings)
+          (started_on plan file) (setup_lines plan (setup_in file)) refl meetings)
           (kept-on meetings)
 
 -- whatever it meets, over whatever its file holds

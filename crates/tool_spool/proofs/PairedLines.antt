@@ -12,8 +12,10 @@ use Rattle.spool_file.specs.Slot.{Message}
 use Rattle.trace_log.specs.Log.{Happening}
 use Rattle.tool_step.specs.Equipment.{settled_list}
 use Rattle.message_end.proofs.Growing.{behind-both}
+use Rattle.tool_law.proofs.CommandWalks.{are-both}
 use Rattle.tool_law.proofs.WorkLines.{LeavesStanding}
 use Rattle.tool_spool.specs.InPairs.{AreInPairs, TellsOf, changes_in, with_change}
+use Rattle.tool_spool.proofs.StillLines.{AreStill, IsStill}
 
 -- ---- lists of changes
 
@@ -71,11 +73,12 @@ pairs-work (first ∷ works) next list (b ∷ h ∷ rest) one before behind pair
 
 -- ---- of a ledger
 
--- behind what was noted before the step, of all that the ledger owes
+-- behind what was noted before the step, of all that the ledger owes; and none of these lines is of a setup
 pub record AreTold (v : LedgerView) (list : List Message) (base notes : List Happening) : Type 0 where
   pub lines : List Happening
   pub noted : notes ≡ noted_behind lines base
   pub pairs : AreInPairs (stood_count v).next list v.works (changes_in lines)
+  pub still : AreStill lines
 
 -- nothing is owed, and nothing was noted since
 pub told-none : (v : LedgerView) (list : List Message) (notes : List Happening) → v.works ≡ []
@@ -84,13 +87,14 @@ told-none v list notes none = record {
   lines = [];
   noted = refl;
   pairs = subst (λ (works : List Work). AreInPairs (stood_count v).next list works []) (sym none) refl;
+  still = tt;
 }
 
 -- a note of something else
 pub told-more :
     (v : LedgerView) (list : List Message) (base notes : List Happening) (what : Happening)
-    → LeavesStanding (change_of what) → AreTold v list base notes → AreTold v list base (what ∷ notes)
-told-more v list base notes what leaves told = record {
+    → LeavesStanding (change_of what) → IsStill what → AreTold v list base notes → AreTold v list base (what ∷ notes)
+told-more v list base notes what leaves still told = record {
   lines = told.lines ++ what ∷ [];
   noted =
       ap (λ (ns : List Happening). what ∷ ns) told.noted ∙ sym (behind-both told.lines (what ∷ []) base);
@@ -101,6 +105,7 @@ told-more v list base notes what leaves told = record {
       ∙ ap (λ (cs : List Change). changes_in told.lines ++ cs) (no-change (change_of what) leaves)
       ∙ append-nil (changes_in told.lines)))
       told.pairs;
+  still = are-both IsStill told.lines (what ∷ []) told.still (still, tt);
 }
 
 -- a ledger that owes the same
@@ -114,16 +119,17 @@ told-as v w list base notes stood works told = record {
       subst (λ (at : Numbered). AreInPairs (at.first + sum at.sizes) list w.works (changes_in told.lines)) (sym stood)
       (subst (λ (ws : List Work). AreInPairs (stood_count v).next list ws (changes_in told.lines)) (sym works)
       told.pairs);
+  still = told.still;
 }
 
 -- a work more, with the line before it and the one behind it
 pub told-work :
     (v w : LedgerView) (list : List Message) (base notes : List Happening) (one : Work) (first last : Happening)
     → IsLedger v → w.stood ≡ v.stood → w.works ≡ owed v one
-    → changes_in (first ∷ last ∷ []) ≡ change_of first ∷ change_of last ∷ []
+    → changes_in (first ∷ last ∷ []) ≡ change_of first ∷ change_of last ∷ [] → AreStill (first ∷ last ∷ [])
     → TellsOf (next_of v) (settled_list v list) one (change_of first) (change_of last) → AreTold v list base notes
     → AreTold w list base (last ∷ first ∷ notes)
-told-work v w list base notes one first last is stood works both tells told =
+told-work v w list base notes one first last is stood works both still tells told =
     told-as (record v { works = owed v one }) w list base (last ∷ first ∷ notes) stood works (record {
       lines = told.lines ++ first ∷ last ∷ [];
       noted =
@@ -138,4 +144,5 @@ told-work v w list base notes one first last is stood works both tells told =
           told.pairs
           (subst (λ (next : ℕ). TellsOf next (settled_list v list) one (change_of first) (change_of last))
           (sym (nexts-are (stood_count v) v.works ∙ ap (λ (c : Count). c.next) is.come_to)) tells));
+      still = are-both IsStill told.lines (first ∷ last ∷ []) told.still still;
     })

@@ -23,7 +23,7 @@ use Rattle.spool_file.specs.Run.{IsChainFrom}
 use Rattle.spool_file.specs.Slot.{Message, width}
 use Rattle.spool_file.proofs.Runs.{chain_last}
 use Rattle.spool_ledger.proofs.Widths.{widths-last, widths-long, widths-rest}
-use Rattle.trace_log.specs.Log.{Happening, is_before_change}
+use Rattle.trace_log.specs.Log.{Happening}
 use Rattle.trace_log.specs.Log.Happening.{Discarded, Gone, Leaving, TooLong}
 use Rattle.trace_log.specs.Names.{Spooled, spooled_name}
 use Rattle.trace_log.specs.declared.names.Cause.{Cause}
@@ -41,6 +41,7 @@ use Rattle.tool_spool.proofs.Chained.{chain-below, chain-first, chain-rest, size
 use Rattle.tool_spool.proofs.FromStarts.{KeepsOn}
 use Rattle.tool_spool.proofs.PairedLines.{AreTold, told-more, told-none, told-work}
 use Rattle.tool_law.proofs.WorkLines.{AreLines, LeavesStanding, lines-more, lines-none, lines-work}
+use Rattle.tool_spool.proofs.StillLines.{before-none, still-none, tells_of_file}
 
 -- ---- lists
 
@@ -165,7 +166,7 @@ module _ (policy : Policy) where
 
   pub noted-shelved :
       (v : LedgerView) (list : List Message) (base notes : List Happening) (what : Happening)
-      → LeavesStanding (change_of what) → is_before_change what ≡ false → MayChange policy notes (change_of what)
+      → LeavesStanding (change_of what) → tells_of_file what ≡ false → MayChange policy notes (change_of what)
       → IsShelved policy v list base notes → IsShelved policy v list base (what ∷ notes)
   noted-shelved v list base notes what leaves aside may is =
       let all = same (change_of what) leaves in
@@ -175,8 +176,8 @@ module _ (policy : Policy) where
         stands = all.1 ∙ is.stands;
         chain = is.chain;
         sizes = is.sizes;
-        lines = lines-more v list base notes what aside is.lines;
-        told = told-more v list base notes what leaves is.told;
+        lines = lines-more v list base notes what (before-none what aside) is.lines;
+        told = told-more v list base notes what leaves (still-none what aside) is.told;
         closed = used-behind (change_of what) notes leaves;
       }
     where
@@ -283,7 +284,7 @@ module _ (policy : Policy) where
         told =
             told-work v (put message v).next list base notes
             (work.Put message.stream message.function message.body) (Happening.Storing (next_of v) message)
-            (Happening.Stored (next_of v)) is refl refl refl (refl, refl) shelved.told;
+            (Happening.Stored (next_of v)) is refl refl refl (tt, (tt, tt)) (refl, refl) shelved.told;
         closed = tt;
       }
 
@@ -350,7 +351,7 @@ module _ (policy : Policy) where
         told =
             told-work v (oldest_out why for_one v).next list base notes (work.DropOldest (oldest_of v.sizes))
             (Leaving v.first why for_one)
-            (Gone v.first) is refl refl refl
+            (Gone v.first) is refl refl refl (tt, (tt, tt))
             (record {
               number = v.first;
               why = why;
@@ -435,7 +436,7 @@ module _ (policy : Policy) where
                 (record { stands = shelved.stands; storing = shelved.rest.none_stored; leaving = refl }) shelved.lines;
             told =
                 told-work v emptied list base notes work.Purge (Leaving v.first cause.Purged None) (Gone v.first) is refl
-                refl refl
+                refl refl (tt, (tt, tt))
                 (record {
                   number = v.first;
                   why = cause.Purged;

@@ -60,9 +60,10 @@ lines-carried (what ∷ lines) step =
 abbrev pub ArePutWell : List ReportView → Type 0
 ArePutWell reports = (one : ReportView) → Has reports one → IsPutWell one.message
 
--- the ledger stays, and so does that the reports may be put
+-- the ledger stays, and what is asked of an object outside, and so does that the reports may be put
 pub record IsLikeIt (own new : OwnView) : Type 0 where
   pub ledger : new.ledger ≡ own.ledger
+  pub owed : new.owed ≡ own.owed
   pub reports : ArePutWell own.reports → ArePutWell new.reports
 
 module _ (plan : EquipmentPlan) (slots : ℕ) (list : List Put) (base before : List Happening) where
@@ -84,6 +85,7 @@ module _ (plan : EquipmentPlan) (slots : ℕ) (list : List Put) (base before : L
     pub asks : AsksOfPrimary core.asked
     pub under_way : IsUnder own.ledger core notes
     pub reports : ArePutWell own.reports
+    pub owes : own.owed ≡ None
 
   -- where the numbers are spent the notes keep the law all the same, and go with what is owed, and each work finds
   -- room, or its message
@@ -141,6 +143,7 @@ module _ (plan : EquipmentPlan) (slots : ℕ) (list : List Put) (base before : L
     asks = holds.asks;
     under_way = subst (λ (v : LedgerView). IsUnder v core notes) (sym like.ledger) holds.under_way;
     reports = like.reports holds.reports;
+    owes = like.owed ∙ holds.owes;
   }
 
   under-calmly :
@@ -171,6 +174,7 @@ module _ (plan : EquipmentPlan) (slots : ℕ) (list : List Put) (base before : L
             under-calmly hears own.ledger step.next next.next (told_to step) (told_to next) run.notes run.core
             holds.under_way;
         reports = holds.reports;
+        owes = holds.owes;
       }
 
   -- what calm duties bring, and that no request counts on the way
@@ -217,6 +221,7 @@ module _ (plan : EquipmentPlan) (slots : ℕ) (list : List Put) (base before : L
             (shelf_of (noted_behind lines (told_to step))) step.next.drawn (unloads_in step.next.transactions.begun)
             kept.told kept.moves under;
         reports = holds.reports;
+        owes = holds.owes;
       }))
 
   -- the unload is as it was

@@ -1,5 +1,5 @@
--- What the messages of the host and the commands of the tool keep of the spool as it is noted.
-use Rattle.std.proofs.Common.{◌≡◌, refl, sym, ap, subst, ◌∙◌, inl, arith, ◌+◌, ◌==◌, ◌&&◌, not, Bool, true, false, ℕ, List, [], ◌∷◌, Option, Some, None, if◌then◌else◌}
+-- What the messages of the host keep of the spool as it is noted.
+use Rattle.std.proofs.Common.{◌≡◌, refl, sym, ap, subst, ◌∙◌, inl, inr, arith, ◌+◌, ◌==◌, ◌&&◌, not, Bool, true, false, ℕ, List, [], ◌∷◌, ◌++◌, Option, Some, None, if◌then◌else◌}
 use Rattle.std.proofs.lemmas.Bool.{eqb-true}
 use Rattle.std.proofs.lemmas.Bool.Decides.{nat_tests}
 use Rattle.std.specs.List.{find}
@@ -7,23 +7,16 @@ use Rattle.std.specs.Option.{option_map}
 use Rattle.std.specs.Prelude.{is_some, ◌||◌}
 use Rattle.std.specs.Bool.{beq}
 use Rattle.block_codec.specs.declared.header.Header.{Header}
-use Rattle.gem_alarms.specs.Alarms.{step_of}
-use Rattle.gem_alarms.specs.declared.alarms.AlarmStep.{AlarmStep}
-use Rattle.gem_alarms.specs.declared.alarms.AlarmStep.TheVariants as alarm_step
-use Rattle.gem_reports.specs.Reporting.{is_enabled_in, is_planned}
 use Rattle.gem_shapes.specs.Primaries.{is_known, is_known_stream}
 use Rattle.gem_shapes.specs.declared.request.Request.{Request}
 use Rattle.gem_shapes.specs.declared.request.Request.TheVariants as request
 use Rattle.gem_shapes.specs.declared.request.TablesRequest.{TablesRequest}
 use Rattle.gem_states.specs.declared.comms.CommsIn.TheVariants as comms_in
 use Rattle.gem_states.specs.declared.control.ControlIn.TheVariants as control_in
-use Rattle.gem_vars.specs.Settings.{refusal_of}
-use Rattle.gem_vars.specs.declared.settings.Setting.{Setting}
 use Rattle.gem_trace.specs.declared.request.TraceRequest.{TraceRequest}
 use Rattle.message_flow.specs.declared.message.Message.{Message}
 use Rattle.message_flow.specs.Message.{is_primary}
-use Rattle.trace_log.specs.declared.commands.ToolCommand.{ToolCommand}
-use Rattle.trace_log.specs.declared.commands.ToolCommand.TheVariants as tool
+use Rattle.setup_store.specs.Entries.{Entry, bytes_of, has_room}
 use Rattle.trace_log.specs.InStep.{received_in_step}
 use Rattle.trace_log.specs.Log.{Happening, Past}
 use Rattle.transact.specs.Matching.{matches}
@@ -32,6 +25,7 @@ use Rattle.transact.specs.declared.transactions.Match.TheVariants as match
 use Rattle.transact.specs.Transactions.{is_answered_by, match_of, without_first as without}
 use Rattle.message_end.specs.Core.{EndView, answers, at_first, is_crowded_out, noted}
 use Rattle.message_end.specs.Core.Command.{Answer}
+use Rattle.message_end.specs.Course.{noted_behind}
 use Rattle.message_end.specs.Own.{Has}
 use Rattle.message_end.specs.Parts.{core_after}
 use Rattle.message_end.proofs.Members.{found-in}
@@ -44,35 +38,32 @@ use Rattle.spool_ledger.specs.Unloading.{fresh, is_oldest_tried, tried_in, with_
 use Rattle.spool_ledger.specs.declared.unload.Unload.{Unload}
 use Rattle.spool_file.specs.Slot.{Message as Put}
 use Rattle.equipment_tables.specs.declared.plan.EquipmentPlan.{EquipmentPlan}
-use Rattle.equipment_tables.specs.Answers.{alarm_item_of, event_item}
-use Rattle.equipment_tables.specs.Laws.{TablesAreLookedBackFor}
-use Rattle.equipment_tables.specs.Plan.{EquipmentPlanFits}
 use Rattle.equipment_tables.specs.Requests.{request_of}
-use Rattle.equipment_tables.specs.Tables.{TablesState, after_command, alarm_after, set_after}
 use Rattle.tool_step.specs.declared.kind.Kind.{Kind}
 use Rattle.tool_step.specs.declared.kind.Kind.TheVariants as kind
 use Rattle.tool_step.specs.Codes.{is_accepted_in, is_granted_in}
 use Rattle.tool_step.specs.Grants.{GrantView}
-use Rattle.tool_step.specs.Messages.{answer_turn, dropped_turn, error_turn, established_turn, is_establish_request, is_online_request, known_turn, message_turn, offline_turn, primary_turn, read_turn, request_turn, stray_turn}
-use Rattle.tool_step.specs.Own.{OwnView, event_report, is_communicating, is_enabled_in as is_comms_enabled, is_granted_by, is_online, turn_before, turn_of, waiting_report, waiting_data, with_ledger, with_tables, without_grant, without_report, without_waiting_data}
+use Rattle.tool_step.specs.Messages.{answer_turn, dropped_turn, error_turn, established_turn, heard_turn, is_establish_request, is_online_request, keep_turn, kept_turn, known_turn, message_turn, offline_turn, primary_turn, read_turn, recorded_turn, request_turn, stray_turn, unkept_turn}
+use Rattle.tool_step.specs.Own.{OwnView, ToolTurn, event_report, is_communicating, is_enabled_in as is_comms_enabled, is_granted_by, is_online, turn_before, turn_of, unowed, waiting_report, waiting_data, with_ledger, without_grant, without_report, without_waiting_data}
 use Rattle.tool_step.specs.Replies.{granted_turn, loss_turn, matched_turn, reply_turn, secondary_turn}
-use Rattle.tool_reports.specs.Reported.{past_in, tables_in}
 use Rattle.tool_step.specs.Sampling.{granted_trace_turn, trace_turn}
 use Rattle.tool_step.specs.Sent as sent
+use Rattle.tool_step.specs.Setup.{next_setup}
 use Rattle.tool_step.specs.Spooling.{booked_turn, grant_given_turn, rsda_duties}
 use Rattle.tool_spool.specs.SpoolKept.{is_purge, policy_of}
 use Rattle.tool_step.specs.States as states
-use Rattle.tool_step.specs.Tool.{alarm_report_turn, alarm_turn, command_turn, enabled_turn, known_event_turn, online_turn, refused_turn, set_turn, told_turn, with_event}
 use Rattle.tool_spool.proofs.CalmSamples.{granted-trace-calm, trace-calm}
 use Rattle.tool_law.proofs.CommandWalks.{abort-are}
-use Rattle.tool_law.proofs.TurnWalks.{dropped-of, established-of, note-of, offline-of, online-of, stray-of}
-use Rattle.tool_spool.proofs.CalmParts.{answer-calm, comms-calm, common-calm, control-calm, control-request-calm, error-turn-calm, event-calm, going-calm, like-as, likes, refused-calm, rsda-calm, states-like, unreported-like}
+use Rattle.tool_law.proofs.TurnWalks.{dropped-of, established-of, offline-of, stray-of}
+use Rattle.tool_spool.proofs.CalmParts.{IsCalmTurn, answer-calm, comms-calm, common-calm, control-calm, control-request-calm, error-turn-calm, going-calm, like-as, likes, rsda-calm, states-like, unreported-like}
 use Rattle.tool_spool.proofs.KeptLedger.{one-call}
+use Rattle.tool_spool.proofs.KeptSetups.{TurnOwes, turn-owes, unkept-calm}
 use Rattle.tool_spool.proofs.KeptUnload.{MayConfirm}
+use Rattle.tool_reports.proofs.OwedReplies.{next-so}
 use Rattle.tool_reports.proofs.QuietNotes.{one-behind}
 use Rattle.tool_spool.proofs.ShelvedTurns.{calm-keeps, like-it, purge-keeps}
 use Rattle.tool_law.proofs.CoreSteps.{CoreStep}
-use Rattle.tool_spool.proofs.SpoolTurns.{HoldsAt, IsNoneLeft, ShelvesAt, TurnEnds, before-keeps, calm-at, calm-turn, ended-fewer, judged-keeps, leaving-keeps, loss-keeps, so_far}
+use Rattle.tool_spool.proofs.SpoolTurns.{HoldsAt, IsNoneLeft, ShelvesAt, TurnEnds, before-keeps, calm-at, calm-turn, ended-fewer, loss-keeps, so_far}
 use Rattle.tool_spool.proofs.SpoolUnloads.{leave-given-keeps}
 use Rattle.tool_spool.proofs.TakenTurns.{confirm-keeps, full-so, unload-keeps}
 use Rattle.tool_spool.proofs.UnloadOpen.{HasHeader, IsOpen, asks_grant, found-open, last-tried, none-behind, unloads_in}
@@ -172,7 +163,7 @@ module _ (plan : EquipmentPlan) (slots : ℕ) (list : List Put) (base before : L
       ungranted : ShelvesAt plan slots list base before (without_grant system own) step
       ungranted =
           like-it plan slots list base before own (without_grant system own) step.next (notes_at step)
-          (like-as own (without_grant system own) refl refl) holds.shelves
+          (like-as own (without_grant system own) refl refl refl) holds.shelves
 
       granted : (found : Option GrantView)
           → TurnEnds plan slots list base before
@@ -213,7 +204,7 @@ module _ (plan : EquipmentPlan) (slots : ℕ) (list : List Put) (base before : L
           calm-turn plan slots list base before own
           (granted_trace_turn (waiting_data system own) (without_waiting_data system own)) step
           (granted-trace-calm (waiting_data system own) own (without_waiting_data system own)
-          (like-as own (without_waiting_data system own) refl refl)) holds.shelves
+          (like-as own (without_waiting_data system own) refl refl refl)) holds.shelves
       go false = loss-keeps plan slots list base before now kind.TraceGrant system own e step none holds
 
   -- a secondary was received just now, the last block of which has this header
@@ -386,10 +377,39 @@ module _ (plan : EquipmentPlan) (slots : ℕ) (list : List Put) (base before : L
       calm-keeps plan slots list base before false own own (sent.abort_duty message ∷ []) step (likes own)
       (abort-are common-calm message) holds
 
+  -- a change of the setup is kept, behind its request
+  kept-owing :
+      (kept : List Entry) (asks : Request) (message : Message) (own : OwnView) (step : CoreStep)
+      → next_setup asks message own ≡ Some kept → has_room (bytes_of kept) ≡ true
+      → ShelvesAt plan slots list base before own (noted Some (Happening.Recorded (Past.Asked message)) step)
+      → TurnOwes plan slots list base before (recorded_turn message (keep_turn kept asks message own)) step
+  kept-owing kept asks message own step is room counts = inr (record {
+    message = message;
+    earlier = noted_behind recorded before;
+    noted =
+        one-behind (recorded ++ Happening.Keeping message ∷ []) (Happening.Kept message) before
+        ∙ ap (λ (ns : List Happening). Happening.Kept message ∷ ns)
+        (one-behind recorded (Happening.Keeping message) before);
+    shelves =
+        like-it plan slots list base before own (unowed (keep_turn kept asks message own).own) step.next
+        (noted_behind recorded before)
+        (like-as own (unowed (keep_turn kept asks message own).own) refl (sym counts.owes) refl) counts;
+    kept = record {
+      list = kept;
+      owed = refl;
+      setup = refl;
+      room = room;
+      kind = (next-so kept asks message own is).kind;
+    };
+  })
+    where
+      recorded : List Happening
+      recorded = step.notes ++ Happening.Recorded (Past.Asked message) ∷ []
+
   read-keeps :
       (now : ℕ) (header : Header) (message : Message) (own : OwnView) (step : CoreStep) → IsNewest message step
       → HoldsAt plan slots list base before own step
-      → TurnEnds plan slots list base before
+      → TurnOwes plan slots list base before
       (read_turn now (request_of message.stream message.function message.body) header message own) step
   read-keeps now header message own step newest holds =
       go (request_of message.stream message.function message.body) refl
@@ -397,66 +417,89 @@ module _ (plan : EquipmentPlan) (slots : ℕ) (list : List Put) (base before : L
       next : CoreStep
       next = noted Some (Happening.Recorded (Past.Asked message)) step
 
+      newer : IsNewest message next
+      newer = record {
+        earlier = newest.earlier;
+        since =
+            ap received_since (one-behind step.notes (Happening.Recorded (Past.Asked message)) before)
+            ∙ newest.since;
+        others = newest.others;
+        in_step =
+            ap received_in_step (one-behind step.notes (Happening.Recorded (Past.Asked message)) before)
+            ∙ newest.in_step;
+      }
+
       go : (read : Option Request) → request_of message.stream message.function message.body ≡ read
-          → TurnEnds plan slots list base before (read_turn now read header message own) step
+          → TurnOwes plan slots list base before (read_turn now read header message own) step
       go None is =
-          calm-turn plan slots list base before own (error_turn 7 header own) step (error-turn-calm 7 header own)
-          holds.shelves
-      go (Some asks) is =
-          asked-turn asks now message own next is
-          (record {
-            earlier = newest.earlier;
-            since =
-                ap received_since (one-behind step.notes (Happening.Recorded (Past.Asked message)) before)
-                ∙ newest.since;
-            others = newest.others;
-            in_step =
-                ap received_in_step (one-behind step.notes (Happening.Recorded (Past.Asked message)) before)
-                ∙ newest.in_step;
-          })
-          (full-so plan slots list base before own (Happening.Recorded (Past.Asked message)) step refl refl
+          turn-owes plan slots list base before (error_turn 7 header own) step
+          (calm-turn plan slots list base before own (error_turn 7 header own) step (error-turn-calm 7 header own)
           holds.shelves)
+      go (Some asks) is = heard (next_setup asks message own) refl
+        where
+          counts : ShelvesAt plan slots list base before own next
+          counts =
+              full-so plan slots list base before own (Happening.Recorded (Past.Asked message)) step refl refl
+              holds.shelves
+
+          heard : (list_behind : Option (List Entry)) → next_setup asks message own ≡ list_behind
+              → TurnOwes plan slots list base before (heard_turn list_behind now asks message own) step
+          heard None none =
+              turn-owes plan slots list base before (recorded_turn message (request_turn asks now message own)) step
+              (asked-turn asks now message own next is newer counts)
+          heard (Some kept) some = by_room (has_room (bytes_of kept)) refl
+            where
+              by_room : (room : Bool) → has_room (bytes_of kept) ≡ room
+                  → TurnOwes plan slots list base before (kept_turn room kept asks message own) step
+              by_room true room = kept-owing kept asks message own step some room counts
+              by_room false room =
+                  turn-owes plan slots list base before (unkept_turn message own) step
+                  (calm-turn plan slots list base before own (unkept_turn message own) step (unkept-calm message own)
+                  holds.shelves)
 
   known-keeps :
       (now : ℕ) (header : Header) (message : Message) (own : OwnView) (step : CoreStep) → IsNewest message step
       → HoldsAt plan slots list base before own step
-      → TurnEnds plan slots list base before (known_turn now header message own) step
+      → TurnOwes plan slots list base before (known_turn now header message own) step
   known-keeps now header message own step newest holds =
       go (not (is_known_stream message.stream)) (not (is_known message.stream message.function))
     where
+      calm : (turn : ToolTurn) → IsCalmTurn own turn → TurnOwes plan slots list base before turn step
+      calm turn is =
+          turn-owes plan slots list base before turn step
+          (calm-turn plan slots list base before own turn step is holds.shelves)
+
       go : (strange unknown : Bool)
-          → TurnEnds plan slots list base before
+          → TurnOwes plan slots list base before
           (if strange then error_turn 3 header own else if unknown then error_turn 5 header own
           else read_turn now (request_of message.stream message.function message.body) header message own) step
-      go true unknown =
-          calm-turn plan slots list base before own (error_turn 3 header own) step (error-turn-calm 3 header own)
-          holds.shelves
-      go false true =
-          calm-turn plan slots list base before own (error_turn 5 header own) step (error-turn-calm 5 header own)
-          holds.shelves
+      go true unknown = calm (error_turn 3 header own) (error-turn-calm 3 header own)
+      go false true = calm (error_turn 5 header own) (error-turn-calm 5 header own)
       go false false = read-keeps now header message own step newest holds
 
   primary-keeps :
       (now : ℕ) (header : Header) (message : Message) (own : OwnView) (step : CoreStep) → IsNewest message step
       → HoldsAt plan slots list base before own step
-      → TurnEnds plan slots list base before (primary_turn now header message own) step
+      → TurnOwes plan slots list base before (primary_turn now header message own) step
   primary-keeps now header message own step newest holds =
       go (is_establish_request message) (not (is_communicating own))
       (not (is_online own) && not (is_online_request message))
     where
+      calm : (turn : ToolTurn) → IsCalmTurn own turn → TurnOwes plan slots list base before turn step
+      calm turn is =
+          turn-owes plan slots list base before turn step
+          (calm-turn plan slots list base before own turn step is holds.shelves)
+
       go : (establishing silent offline : Bool)
-          → TurnEnds plan slots list base before
+          → TurnOwes plan slots list base before
           (if establishing then established_turn now message own else if silent then stray_turn now message own
           else if offline then offline_turn message own else known_turn now header message own) step
       go true silent offline =
-          calm-turn plan slots list base before own (established_turn now message own) step
-          (established-of common-calm states-like (λ body. refl) message (λ body. tt) now own) holds.shelves
+          calm (established_turn now message own)
+          (established-of common-calm states-like (λ body. refl) message (λ body. tt) now own)
       go false true offline =
-          calm-turn plan slots list base before own (stray_turn now message own) step
-          (stray-of common-calm states-like (λ body. refl) now message own) holds.shelves
-      go false false true =
-          calm-turn plan slots list base before own (offline_turn message own) step
-          (offline-of common-calm states-like message own) holds.shelves
+          calm (stray_turn now message own) (stray-of common-calm states-like (λ body. refl) now message own)
+      go false false true = calm (offline_turn message own) (offline-of common-calm states-like message own)
       go false false false = known-keeps now header message own step newest holds
 
   -- a whole message was received just now, the last block of which has this header
@@ -464,17 +507,18 @@ module _ (plan : EquipmentPlan) (slots : ℕ) (list : List Put) (base before : L
       (now : ℕ) (header : Header) (message : Message) (own : OwnView) (e : EndView Kind) (earlier : List Happening)
       (step : CoreStep) → e ≡ step.next → notes_at step ≡ Happening.Received message ∷ earlier
       → HasHeader header message → HoldsAt plan slots list base before own step
-      → TurnEnds plan slots list base before (message_turn now header message own e) step
+      → TurnOwes plan slots list base before (message_turn now header message own e) step
   message-keeps now header message own e earlier step same newest system holds =
       go (not (is_comms_enabled own.comms.state)) (is_primary message) refl
     where
       go : (disabled odd : Bool) → is_primary message ≡ odd
-          → TurnEnds plan slots list base before
+          → TurnOwes plan slots list base before
           (if disabled then dropped_turn message own else if odd then primary_turn now header message own
           else secondary_turn now header message own e) step
       go true odd is =
-          calm-turn plan slots list base before own (dropped_turn message own) step
-          (dropped-of common-calm states-like message own) holds.shelves
+          turn-owes plan slots list base before (dropped_turn message own) step
+          (calm-turn plan slots list base before own (dropped_turn message own) step
+          (dropped-of common-calm states-like message own) holds.shelves)
       go false true is =
           primary-keeps now header message own step
           (record {
@@ -484,115 +528,6 @@ module _ (plan : EquipmentPlan) (slots : ℕ) (list : List Put) (base before : L
             in_step = ap received_in_step newest;
           })
           holds
-      go false false is = secondary-keeps now header message own e earlier step same newest system is holds
-
-  -- ---- commands of the tool
-
-  -- behind the command as it is noted, with the tables as it leaves them
-  pub command-keeps :
-      (command : ToolCommand) (now : ℕ) (own : OwnView) (e : EndView Kind) (step : CoreStep)
-      → ShelvesAt plan slots list base before own step
-      → tables_in plan (notes_at step) ≡ after_command command own.tables
-      → TurnEnds plan slots list base before (command_turn command now own e) step
-  command-keeps (tool.Set vid value) now own e step holds at = go (refusal_of own.tables.vars vid value)
-    where
-      go : (refusal : Option Setting) → TurnEnds plan slots list base before (set_turn refusal vid value own) step
-      go (Some refusal) =
-          calm-turn plan slots list base before own (refused_turn own) step (refused-calm own) holds
-      go None =
-          calm-turn plan slots list base before own (set_turn None vid value own) step
-          (note-of own (with_tables (set_after vid value own.tables) own) (Happening.Set vid)
-          (like-as own (with_tables (set_after vid value own.tables) own) refl refl)
-          ((λ told. tt), ((λ notes. refl), refl))) holds
-  command-keeps (tool.Event ceid) now own e step holds at = go (is_planned own.tables.reports ceid)
-    where
-      next : CoreStep
-      next = noted Some (Happening.Event ceid own.events) step
-
-      behind : HoldsAt plan slots list base before (with_event own) next
-      behind = record {
-        shelves =
-            like-it plan slots list base before own (with_event own) next.next (notes_at next)
-            (like-as own (with_event own) refl refl)
-            (full-so plan slots list base before own (Happening.Event ceid own.events) step refl refl holds);
-        at = ap (tables_in plan) (one-behind step.notes (Happening.Event ceid own.events) before) ∙ at;
-      }
-
-      by : (enabled : Bool)
-          → TurnEnds plan slots list base before (enabled_turn enabled ceid own.events (with_event own) e) next
-      by true =
-          judged-keeps plan slots list base before event_report
-          (λ message. sent.event_turn own.events message.body (with_event own) e)
-          (sent.text_of (with_event own) (event_item own.tables ceid own.events)) (with_event own) next
-          (λ body. (refl, omega arith)) (λ body. event-calm own.events body (with_event own) e) behind
-      by false = behind.shelves
-
-      go : (known : Bool) → TurnEnds plan slots list base before (known_event_turn known ceid own e) step
-      go true = by (is_enabled_in own.tables.reports ceid)
-      go false = calm-turn plan slots list base before own (refused_turn own) step (refused-calm own) holds
-  command-keeps (tool.Alarm alid is_set) now own e step holds at = go (step_of own.tables.alarms alid is_set)
-    where
-      next : CoreStep
-      next = noted Some (Happening.Alarm alid is_set) step
-
-      on : OwnView
-      on = with_tables (alarm_after alid is_set own.tables) own
-
-      behind : HoldsAt plan slots list base before on next
-      behind = record {
-        shelves =
-            like-it plan slots list base before own on next.next (notes_at next) (like-as own on refl refl)
-            (full-so plan slots list base before own (Happening.Alarm alid is_set) step refl refl holds);
-        at = ap (tables_in plan) (one-behind step.notes (Happening.Alarm alid is_set) before) ∙ at;
-      }
-
-      by : (enabled : Bool) → TurnEnds plan slots list base before (alarm_report_turn enabled alid on e) next
-      by true =
-          judged-keeps plan slots list base before sent.alarm_report (λ message. sent.going_turn message on e)
-          (sent.text_of on (alarm_item_of on.tables alid)) on next (λ body. (refl, omega arith))
-          (λ body. going-calm (sent.alarm_report body) (refl, omega arith) on e) behind
-      by false = behind.shelves
-
-      go : (found : AlarmStep) → TurnEnds plan slots list base before (alarm_turn found alid is_set own e) step
-      go alarm_step.Unknown = calm-turn plan slots list base before own (refused_turn own) step (refused-calm own) holds
-      go alarm_step.Same =
-          calm-turn plan slots list base before own (alarm_turn alarm_step.Same alid is_set own e) step
-          (note-of own own (Happening.Alarm alid is_set) (likes own) ((λ told. tt), ((λ notes. refl), refl))) holds
-      go (alarm_step.Changed enabled) = by enabled
-  command-keeps tool.Enable now own e step holds at =
-      calm-turn plan slots list base before own (states.comms_turn comms_in.Enable now own) step
-      (comms-calm comms_in.Enable now own) holds
-  command-keeps tool.Disable now own e step holds at =
-      leaving-keeps plan slots list base before comms_in.Disable None now own e step
-      (record { shelves = holds; at = at })
-  command-keeps tool.Online now own e step holds at =
-      calm-turn plan slots list base before own (online_turn own e) step
-      (online-of common-calm states-like refl own e) holds
-  command-keeps tool.Offline now own e step holds at =
-      calm-turn plan slots list base before own (states.control_turn control_in.Offline own) step
-      (control-calm control_in.Offline own) holds
-  command-keeps tool.Local now own e step holds at =
-      calm-turn plan slots list base before own (states.control_turn control_in.ToLocal own) step
-      (control-calm control_in.ToLocal own) holds
-  command-keeps tool.Remote now own e step holds at =
-      calm-turn plan slots list base before own (states.control_turn control_in.ToRemote own) step
-      (control-calm control_in.ToRemote own) holds
-  command-keeps (tool.Terminal tid text) now own e step holds at =
-      judged-keeps plan slots list base before sent.terminal_report (λ message. sent.going_turn message own e)
-      (sent.text_of own (sent.terminal_item tid text)) own step (λ body. (refl, omega arith))
-      (λ body. going-calm (sent.terminal_report body) (refl, omega arith) own e)
-      (record { shelves = holds; at = at })
-
-  pub told-keeps :
-      (command : ToolCommand) (now : ℕ) (own : OwnView) (e : EndView Kind) (step : CoreStep)
-      → EquipmentPlanFits plan → TablesAreLookedBackFor → HoldsAt plan slots list base before own step
-      → TurnEnds plan slots list base before (told_turn command now own e) step
-  told-keeps command now own e step fits looked holds =
-      command-keeps command now own e (noted Some what step)
-      (full-so plan slots list base before own what step refl refl holds.shelves)
-      (ap (tables_in plan) (one-behind step.notes what before)
-      ∙ looked.next plan (past_in (notes_at step)) (Past.Commanded command) fits
-      ∙ ap (λ (t : TablesState). after_command command t) holds.at)
-    where
-      what : Happening
-      what = Happening.Recorded (Past.Commanded command)
+      go false false is =
+          turn-owes plan slots list base before (secondary_turn now header message own e) step
+          (secondary-keeps now header message own e earlier step same newest system is holds)

@@ -444,7 +444,7 @@ module _ (plan : EquipmentPlan) (slots : ℕ) (list : List Put) (base before : L
           (request-are common-calm (λ body. refl) outcome.output own) at)
           (λ last kept.
           like-it plan slots list base before (with_ledger stores.next on) last_own last.next (so_far last)
-          (record { ledger = refl; reports = λ are one has. absurd has }) kept.shelves)
+          (record { ledger = refl; owed = refl; reports = λ are one has. absurd has }) kept.shelves)
           (λ last kept. kept)
 
       behind : (next : CoreStep) → HoldsAt (unloaded_own own) next
@@ -495,7 +495,7 @@ module _ (plan : EquipmentPlan) (slots : ℕ) (list : List Put) (base before : L
   loss-keeps now kind.Grant system own e step none holds =
       calm-turn own (loss_turn now kind.Grant system own e) step
       (denied-of common-calm states-like own (without_grant system own)
-      (like-as own (without_grant system own) refl refl)) holds.shelves
+      (like-as own (without_grant system own) refl refl refl)) holds.shelves
   loss-keeps now kind.Report system own e step none holds =
       like-it plan slots list base before own (without_report system own) step.next (so_far step)
       (unreported-like own system) holds.shelves
@@ -508,7 +508,7 @@ module _ (plan : EquipmentPlan) (slots : ℕ) (list : List Put) (base before : L
   loss-keeps now kind.Trace system own e step none holds = holds.shelves
   loss-keeps now kind.TraceGrant system own e step none holds =
       calm-turn own (loss_turn now kind.TraceGrant system own e) step
-      (untraced-calm own (without_waiting_data system own) (like-as own (without_waiting_data system own) refl refl))
+      (untraced-calm own (without_waiting_data system own) (like-as own (without_waiting_data system own) refl refl refl))
       holds.shelves
 
   pub before-keeps :

@@ -211,6 +211,7 @@ module _ (plan : EquipmentPlan) (slots : ℕ) (list : List Put) (base before : L
         IsOpen under own.ledger.first (shelf_of (so_far plan slots list base before step)) step.next.drawn
         (unloads_in step.next.transactions.begun)) none holds.under_way);
     reports = holds.reports;
+    owes = holds.owes;
   }
 
   -- with the message that is to go out
@@ -232,7 +233,7 @@ module _ (plan : EquipmentPlan) (slots : ℕ) (list : List Put) (base before : L
         (with_ledger (taken_up own.ledger.first system (waiting_text message) own.ledger).next own) next step.next
         tried_notes
         (like-as (with_ledger (taken_up own.ledger.first system (waiting_text message) own.ledger).next own) next refl
-        refl)
+        refl refl)
         (try-keeps plan slots list base before own system (waiting_text message) oldest rest step.next
         (so_far plan slots list base before step) some same below none (goes (needs_grant message) refl) holds));
     none = none;

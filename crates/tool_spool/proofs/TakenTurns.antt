@@ -2,7 +2,7 @@
 use Rattle.std.proofs.Common.{◌≡◌, refl, sym, ap, subst, ◌∙◌, inl, inr, ◌⊎◌, arith, ◌<◌, ◌+◌, ◌==◌, Bool, true, false, ℕ, List, [], ◌∷◌, ◌++◌, Option, Some, None, if◌then◌else◌, length}
 use Rattle.std.specs.Option.{option_map}
 use Rattle.block_codec.specs.declared.header.Header.{Header}
-use Rattle.trace_log.specs.Log.{Happening, is_before_change}
+use Rattle.trace_log.specs.Log.{Happening}
 use Rattle.trace_log.specs.Log.Happening.{Full, Sent, Try}
 use Rattle.trace_log.specs.Names.{Spooled}
 use Rattle.transact.specs.declared.transactions.Beginning.{Beginning}
@@ -37,6 +37,7 @@ use Rattle.tool_spool.proofs.KeptLedger.{one-call}
 use Rattle.tool_spool.proofs.KeptUnload.{MayConfirm, OwesAs, confirmed-kept, confirmed-tried, moved-shelved, rested-kept, rested-unload, taken-shelved, taken-told}
 use Rattle.tool_reports.proofs.QuietNotes.{one-behind}
 use Rattle.tool_spool.proofs.Shelved.{noted-shelved}
+use Rattle.tool_spool.proofs.StillLines.{tells_of_file}
 use Rattle.tool_law.proofs.WorkLines.{LeavesStanding}
 use Rattle.tool_spool.proofs.ShelvedTurns.{Ends, Shelves, once, same-under, spent-at, turn-keeps}
 use Rattle.tool_law.proofs.CoreSteps.{CoreStep}
@@ -107,6 +108,7 @@ module _ (plan : EquipmentPlan) (slots : ℕ) (list : List Put) (base before : L
     asks = holds.asks;
     under_way = none;
     reports = holds.reports;
+    owes = holds.owes;
   }
 
   -- the unload changes, and no message is under way before or behind it
@@ -125,6 +127,7 @@ module _ (plan : EquipmentPlan) (slots : ℕ) (list : List Put) (base before : L
     asks = holds.asks;
     under_way = under;
     reports = holds.reports;
+    owes = holds.owes;
   }
 
   -- what is under way where a message has been taken up
@@ -165,6 +168,7 @@ module _ (plan : EquipmentPlan) (slots : ℕ) (list : List Put) (base before : L
         (shelf_of (Try own.ledger.first system ∷ notes)) core.drawn o) (sym none)
         (taken-under own.ledger system waiting (shelf_of (Try own.ledger.first system ∷ notes)) core.drawn refl goes);
     reports = holds.reports;
+    owes = holds.owes;
   }
     where
       go : (one : Told)
@@ -181,7 +185,7 @@ module _ (plan : EquipmentPlan) (slots : ℕ) (list : List Put) (base before : L
       (sym (one-behind step.notes what before)) holds
 
   pub full-so : (own : OwnView) (what : Happening) (step : CoreStep) → change_of what ≡ Other
-      → is_before_change what ≡ false
+      → tells_of_file what ≡ false
       → Shelves plan slots list base before own step.next (noted_behind step.notes before)
       → Shelves plan slots list base before own step.next (noted_behind (noted Some what step).notes before)
   full-so own what step other aside holds =
@@ -205,6 +209,7 @@ module _ (plan : EquipmentPlan) (slots : ℕ) (list : List Put) (base before : L
             (shelf_changed c (shelf_of (noted_behind step.notes before))) step.next.drawn
             (unloads_in step.next.transactions.begun)) (sym other) holds.under_way;
         reports = holds.reports;
+        owes = holds.owes;
       })
 
   -- it goes out under the number that was drawn, which is the one of its try. One without room ends the unload
@@ -261,6 +266,7 @@ module _ (plan : EquipmentPlan) (slots : ℕ) (list : List Put) (base before : L
                 (last_header_of step.next.outgoing (primary_of (unloaded message) system)) step.next.transactions refl
                 none));
             reports = holds.reports;
+            owes = holds.owes;
           })
         where
           gone : {opened : Open}
@@ -339,6 +345,7 @@ module _ (plan : EquipmentPlan) (slots : ℕ) (list : List Put) (base before : L
                 (last_header_of step.next.outgoing (primary_of (unload_request text) step.next.numbers.next))
                 step.next.transactions refl none));
             reports = holds.reports;
+            owes = holds.owes;
           })
         where
           asked : {opened : Open} {header : Header} → (opened ≡ []) ⊎ (opened ≡ (true, header) ∷ []) → IsAsked opened

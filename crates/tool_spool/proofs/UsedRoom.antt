@@ -1,11 +1,11 @@
 -- That no place is left that was made for a put, wherever a disk stops a step.
-use Rattle.std.proofs.Common.{◌≡◌, refl, sym, ap, subst, ◌∙◌, inl, inr, ◌⊎◌, append_assoc, Bool, true, false, List, [], ◌∷◌, ◌++◌, if◌then◌else◌}
+use Rattle.std.proofs.Common.{◌≡◌, refl, sym, subst, append_assoc, Bool, true, false, List, [], ◌∷◌, ◌++◌, if◌then◌else◌}
 use Rattle.message_end.specs.Course.{noted_behind}
 use Rattle.message_end.specs.Own.{Has}
 use Rattle.spool_law.specs.Shelf.{change_of}
-use Rattle.spool_works.specs.DiskWorks.{DiskWork, behind_change, fronts_of, up_to_change}
+use Rattle.spool_works.specs.DiskWorks.{DiskWork, fronts_of, up_to_change}
 use Rattle.trace_log.specs.Log.{Happening, is_before_change}
-use Rattle.tool_law.proofs.Lawful.{split-change}
+use Rattle.spool_works.proofs.EachFront.{each-front}
 use Rattle.message_end.proofs.Growing.{behind-both}
 use Rattle.tool_spool.specs.MadeRoom.{IsRoomUsed, IsUsedBy}
 
@@ -46,29 +46,4 @@ module _ (base : List Happening) where
   pub fronts-used :
       (works : List DiskWork) (before notes front : List Happening) → IsUsed before → IsUsed (before ++ notes)
       → Has (fronts_of before works notes) front → IsUsed front
-  fronts-used [] before notes front first all has = absurd has
-  fronts-used (DiskWork.Reserve ∷ works) before notes front first all (inl same) = subst IsUsed (sym same) first
-  fronts-used (DiskWork.Reserve ∷ works) before notes front first all (inr has) =
-      fronts-used works before notes front first all has
-  fronts-used (DiskWork.Change one ∷ works) before notes front first all has =
-      go has
-      (λ later. fronts-used works (before ++ up_to_change notes) (behind_change notes) front up
-      (subst IsUsed whole all) later)
-    where
-      up : IsUsed (before ++ up_to_change notes)
-      up = up-used notes before all
-
-      whole : before ++ notes ≡ (before ++ up_to_change notes) ++ behind_change notes
-      whole =
-          ap (λ (ns : List Happening). before ++ ns) (split-change notes)
-          ∙ sym (append_assoc before (up_to_change notes) (behind_change notes))
-
-      go : (front ≡ before ++ up_to_change notes)
-          ⊎ Has (fronts_of (before ++ up_to_change notes) works (behind_change notes)) front
-          → (Has (fronts_of (before ++ up_to_change notes) works (behind_change notes)) front → IsUsed front)
-          → IsUsed front
-      go (inl same) later = subst IsUsed (sym same) up
-      go (inr has) later = later has
-  fronts-used (DiskWork.ReadOldest slots ∷ works) before notes front first all (inl same) = subst IsUsed (sym same) all
-  fronts-used (DiskWork.ReadOldest slots ∷ works) before notes front first all (inr has) =
-      fronts-used works before notes front first all has
+  fronts-used = each-front IsUsed (λ before notes used. up-used notes before used)

@@ -1,6 +1,7 @@
 pub mod InPairs
 pub mod LeavesInStep
 pub mod MadeRoom
+pub mod SetupKept
 pub mod SpoolKept
 pub mod TriedRuns
 pub mod WorkedHeld

@@ -3,6 +3,7 @@
 ghost use Rattle.tool_spool.specs.InPairs.{WorksAreInPairs};
 ghost use Rattle.tool_spool.specs.LeavesInStep.{MessagesLeaveInStep};
 ghost use Rattle.tool_spool.specs.MadeRoom.{OverwritesForPuts};
+ghost use Rattle.tool_spool.specs.SetupKept.{SetupIsKept};
 ghost use Rattle.tool_spool.specs.SpoolKept.{SpoolIsKept, SpoolIsKeptFrom};
 ghost use Rattle.tool_spool.specs.TriedRuns.{RunsTryInTurn};
 ghost use Rattle.tool_spool.specs.WorkedHeld.{KeepsWhatIsHeld};
@@ -11,6 +12,7 @@ ghost use Rattle.tool_spool.specs.WorkedRoom.{RoomIsMadeForPuts};
 ghost use Rattle.tool_spool.specs.WorkedSteps.{StepsOfCauses};
 
 use equipment_tables::tables_are_looked_back_for;
+use setup_store::lists_are_read_as_spelled;
 use tool_law::equipment_keeps_the_law;
 
 /// Over all its starts, from an empty spool on, and from whatever a file holds that it is started over, what is stored
@@ -22,6 +24,17 @@ pub fn spool_is_kept()
     ensures held { SpoolIsKeptFrom }
 {
     tables_are_looked_back_for();
+}
+
+/// Over all its starts, from whatever its file holds, each start finds what the start before it found, with each
+/// primary that was kept since; the one that was being kept as power was lost may count, and no other. It carries out
+/// all of that in order, before anything else. Each change of the setup that is accepted is kept in its step, before
+/// its answer.
+pub fn setup_is_kept()
+    ensures { SetupIsKept }
+{
+    tables_are_looked_back_for();
+    lists_are_read_as_spelled();
 }
 
 /// In every run, over all starts: what the equipment notes in a start is of doings that keep the law of an end; in

@@ -4,6 +4,6 @@
 mod laws;
 
 pub use laws::{
-    messages_leave_in_step, overwrites_for_puts, runs_try_in_turn, spool_is_kept, worked_held,
-    worked_pairs, worked_room, worked_steps, works_are_in_pairs,
+    messages_leave_in_step, overwrites_for_puts, runs_try_in_turn, setup_is_kept, spool_is_kept,
+    worked_held, worked_pairs, worked_room, worked_steps, works_are_in_pairs,
 };

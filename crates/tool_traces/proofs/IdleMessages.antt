@@ -8,6 +8,7 @@ use Rattle.gem_alarms.specs.declared.alarms.AlarmStep.{AlarmStep}
 use Rattle.gem_alarms.specs.declared.alarms.AlarmStep.TheVariants as alarm_step
 use Rattle.gem_reports.specs.Reporting.{is_enabled_in, is_planned}
 use Rattle.gem_shapes.specs.Answers.{code_item}
+use Rattle.gem_shapes.specs.declared.request.Request.{Request}
 use Rattle.gem_shapes.specs.declared.request.TablesRequest.{TablesRequest}
 use Rattle.gem_states.specs.declared.comms.CommsIn.TheVariants as comms_in
 use Rattle.gem_states.specs.declared.control.ControlIn.{ControlIn}
@@ -16,6 +17,7 @@ use Rattle.gem_vars.specs.declared.settings.Setting.{Setting}
 use Rattle.gem_vars.specs.Settings as settings
 use Rattle.message_flow.specs.declared.message.Message.{Message}
 use Rattle.secs_items.specs.declared.item.Item.{Item}
+use Rattle.setup_store.specs.Entries.{Entry}
 use Rattle.trace_log.specs.declared.commands.ToolCommand.{ToolCommand}
 use Rattle.trace_log.specs.declared.commands.ToolCommand.TheVariants as tool
 use Rattle.trace_log.specs.Log.{Happening}
@@ -34,17 +36,21 @@ use Rattle.spool_ledger.specs.Unloading.{confirmed, fresh, let_go, waiting_in, w
 use Rattle.tool_step.specs.declared.kind.Kind.{Kind}
 use Rattle.tool_step.specs.declared.kind.Kind.TheVariants as kind
 use Rattle.tool_step.specs.Grants.{GrantView}
-use Rattle.tool_step.specs.Messages.{answer_turn, control_request_turn, dropped_turn, error_turn, established_turn, offline_turn, stray_turn}
-use Rattle.tool_step.specs.Own.{OwnView, ToolTurn, event_report, is_granted_by, is_local, turn_before, turn_of, waiting_report, with_ledger, with_tables, without_grant, without_report, without_waiting_data}
+use Rattle.tool_step.specs.declared.owed.Owed.{Owed}
+use Rattle.tool_step.specs.declared.owed.Owed.TheVariants.{Keep}
+use Rattle.tool_step.specs.Messages.{answer_turn, control_request_turn, dropped_turn, error_turn, established_turn, keep_turn, offline_turn, stray_turn, unkept_duties, unkept_turn}
+use Rattle.tool_step.specs.Own.{OwnView, ToolTurn, event_report, is_granted_by, is_local, turn_before, turn_of, unowed, waiting_report, with_ledger, with_tables, without_grant, without_report, without_waiting_data}
 use Rattle.tool_step.specs.Replies.{block_timer, given_up_by_t4, given_up_turn, granted_turn, loss_turn, reply_timer, timeout_turn}
 use Rattle.tool_step.specs.Sampling.{trace_name}
 use Rattle.tool_step.specs.Sent as sent
+use Rattle.tool_step.specs.Setup.{accepted_item, has_space_code, no_space}
 use Rattle.tool_step.specs.Spooling.{booked_turn, confirmed_turn, grant_given_turn, let_go_turn, purge_turn, rsda_duties, transmit_turn, unloaded_own, unloading_turn}
 use Rattle.tool_step.specs.States as states
+use Rattle.tool_step.specs.Step.{answering, owed_turn}
 use Rattle.tool_step.specs.Tool.{alarm_line, alarm_report_turn, alarm_turn, command_turn, enabled_turn, known_event_turn, set_turn, with_event}
 use Rattle.tool_law.proofs.CommandWalks.{abort-are}
 use Rattle.tool_law.proofs.LedgerLines.{all-out-lines, confirmed-lines}
-use Rattle.tool_law.proofs.TurnWalks.{before-of, control-request-of, dropped-of, error-of, established-of, led-of, note-of, nothing-of, offline-of, online-of, stray-of}
+use Rattle.tool_law.proofs.TurnWalks.{before-of, control-request-of, dropped-of, error-of, established-of, fixed-of, led-of, note-of, nothing-of, offline-of, online-of, stray-of}
 use Rattle.tool_traces.proofs.IdleCommands.{AreIdleDuties, common-idle}
 use Rattle.tool_traces.proofs.IdleTurns.{AreIdleLines, IsIdleTurn, IsOtherReport, KeepsTraces, answers-idle, booked-idle, comms-idle, control-idle, errors-idle, event-idle, going-idle, itself, judged-idle, kept, leaving-idle, lines-idle, report-idle, spool-idle, traces-stay, untraced-kept}
 
@@ -213,6 +219,35 @@ answer-idle asked message own = record {
 
 pub abort-turn-idle : (message : Message) (own : OwnView) → IsIdleTurn own (turn_of own (sent.abort_duty message ∷ []))
 abort-turn-idle message own = record { duties = abort-are common-idle message; keeps = itself own }
+
+-- ---- changes of the setup that are kept
+
+pub keep-idle : (list : List Entry) (asked : Request) (message : Message) (own : OwnView)
+    → IsIdleTurn own (keep_turn list asked message own)
+keep-idle list asked message own =
+    fixed-of own (keep_turn list asked message own).own
+    (Note (Happening.Keeping message) ∷ Note (Happening.Kept message) ∷ [])
+    (kept own (keep_turn list asked message own).own refl) (tt, (tt, tt))
+
+pub unkept-idle : (message : Message) (own : OwnView) → IsIdleTurn own (unkept_turn message own)
+unkept-idle message own = go (has_space_code message)
+  where
+    go : (coded : Bool) → IsIdleTurn own (turn_of own (unkept_duties coded message own))
+    go true = record {
+      duties = answers-idle (sent.text_of own (code_item no_space)) message;
+      keeps = itself own;
+    }
+    go false = abort-turn-idle message own
+
+pub answering-idle : (own : OwnView) (e : EndView Kind) → IsIdleTurn own (answering own e)
+answering-idle own e = go own.owed
+  where
+    go : (owed : Option Owed) → IsIdleTurn own (owed_turn owed (unowed own))
+    go None = nothing-of own (unowed own) (kept own (unowed own) refl)
+    go (Some (Keep primary)) = record {
+      duties = answers-idle (sent.text_of (unowed own) (accepted_item primary)) primary;
+      keeps = kept own (unowed own) refl;
+    }
 
 -- ---- the tool's commands
 

@@ -22,6 +22,7 @@ use Rattle.message_end.specs.Course.Meeting.{Acts, Breaks, Fills, LosesPower, Re
 use Rattle.message_end.specs.Ends.{Input, IsFront, Loss, call_of}
 use Rattle.message_end.specs.Own.{Has}
 use Rattle.message_end.specs.Parts.{Node, after_parts}
+use Rattle.message_end.specs.Starts.{IsOfSetup}
 use Rattle.message_end.proofs.Growing.{behind-both}
 use Rattle.message_end.proofs.Parts.{OnEither, either-less}
 use Rattle.equipment_tables.specs.declared.plan.EquipmentPlan.{EquipmentPlan}
@@ -29,21 +30,24 @@ use Rattle.equipment_tables.specs.Laws.{TablesAreLookedBackFor}
 use Rattle.equipment_tables.specs.Plan.{EquipmentPlanFits}
 use Rattle.equipment_tables.specs.Tables.{TablesState}
 use Rattle.spool_works.proofs.LossCounts.{has-call}
+use Rattle.spool_works.specs.Found.{found_in}
 use Rattle.tool_step.specs.declared.kind.Kind.{Kind}
 use Rattle.tool_step.specs.Own.{OwnView}
 use Rattle.tool_step.specs.Disk.{stops, works_of}
 use Rattle.tool_step.specs.End.{machine}
-use Rattle.tool_step.specs.Equipment.{unstarted, EquipmentView, act, begun_step, ended_step, is_marked_out, needs_numbers, node_step, oldest_of, parts_done, reserved, restarts, settled, settled_step, settled_went, started_on, starts, went_with_file}
+use Rattle.tool_step.specs.Equipment.{unstarted, EquipmentView, act, begun_step, ended_step, is_marked_out, kept_step, kept_view, needs_numbers, node_step, oldest_of, parts_done, reserved, restarts, settled, settled_step, settled_went, started_on, starts, went_with_file}
 use Rattle.tool_step.specs.Losses.{losses}
+use Rattle.tool_step.specs.Setup.{setup_in}
 use Rattle.tool_step.specs.Step.{first_parts, last_parts}
 use Rattle.tool_step.proofs.LossCalls.{losses-counted}
 use Rattle.tool_law.specs.Sound.{AllCanBeSent}
 use Rattle.tool_law.proofs.Lawful.{fronts-are}
+use Rattle.tool_law.proofs.SetupStarts.{AreLines, are-lines, found_lines}
 use Rattle.tool_reports.specs.LookedBack.{HasWhatWasSet}
 use Rattle.tool_reports.specs.Reported.{IsTextOf, count_of, tables_in}
 use Rattle.tool_reports.specs.Sampled.{AreSampled, Stepped, datas_in, due_in, history_of, is_text_of, look_at_step}
 use Rattle.tool_reports.proofs.PlainTurns.{count_waiting}
-use Rattle.tool_reports.proofs.QuietNotes.{counted, one, some-passes}
+use Rattle.tool_reports.proofs.QuietNotes.{counted, one, one-behind, some-passes}
 use Rattle.tool_reports.proofs.QuietReports.{equal-bytes}
 use Rattle.tool_reports.proofs.Reporting.{tables-so}
 use Rattle.tool_traces.specs.Laws.{TracesHold}
@@ -84,6 +88,50 @@ whole-step now before notes last steps is =
         ≡ stepped now before (last ++ Happening.StepEnded ∷ []) ∷ steps
     go [] = refl
     go (what ∷ last) = refl
+
+-- ---- what a start notes
+
+-- no S6F1 was sent in it yet, and what was said stays
+record IsStartNoted (before notes : List Happening) : Type 0 where
+  datas : datas_in notes ≡ []
+  sound : AreSound before → AreSound notes
+
+setup-datas : (lines before : List Happening) → AreLines lines → datas_in (noted_behind lines before) ≡ datas_in before
+setup-datas [] before are = refl
+setup-datas (what ∷ lines) before are = setup-datas lines (what ∷ before) are.1 ∙ same what are.0
+  where
+    same : (what : Happening) → IsOfSetup what → datas_in (what ∷ before) ≡ datas_in before
+    same (Happening.Setup found) of = refl
+    same (Happening.Recorded past) of = refl
+    same Happening.Refused of = refl
+    same what of = absurd of
+
+setup-sound : (lines before : List Happening) → AreLines lines → AreSound before → AreSound (noted_behind lines before)
+setup-sound [] before are so = so
+setup-sound (what ∷ lines) before are so = setup-sound lines (what ∷ before) are.1 (same what are.0)
+  where
+    same : (what : Happening) → IsOfSetup what → AreSound (what ∷ before)
+    same (Happening.Setup found) of = so
+    same (Happening.Recorded past) of = so
+    same Happening.Refused of = so
+    same what of = absurd of
+
+start-noted : (plan : EquipmentPlan) (file : SpoolFile) (before : List Happening)
+    → IsStartNoted before (noted_behind (started_on plan file).notes before)
+start-noted plan file before =
+    subst (IsStartNoted before) (sym (one-behind lines Happening.StepEnded first)) (record {
+      datas = setup-datas lines first are;
+      sound = λ so. setup-sound lines first are so;
+    })
+  where
+    first : List Happening
+    first = Happening.EquipmentStarted (found_in file.list) file.mark.value ∷ before
+
+    lines : List Happening
+    lines = found_lines plan (setup_in file)
+
+    are : AreLines lines
+    are = are-lines plan (setup_in file)
 
 -- ---- where it has come to
 
@@ -239,10 +287,11 @@ module _ (plan : EquipmentPlan) where
             → OnEither WellCloses FewEnds (and_then (settled_went went) (ended_step now))
         go (Spent step) at = at
         go (Goes step) at =
-            closed-file (settled step.next)
-            (after_parts Some (last_parts (oldest_of (settled step.next)) now) (node_step (settled_step step)))
-            (last-keeps notes look past due looked bound (oldest_of (settled step.next)) now
-            (node_step (settled_step step))
+            closed-file (kept_view (settled step.next))
+            (after_parts Some (last_parts (oldest_of (kept_view (settled step.next))) now)
+            (node_step (kept_step (settled_step step))))
+            (last-keeps notes look past due looked bound (oldest_of (kept_view (settled step.next))) now
+            (node_step (kept_step (settled_step step)))
             (record {
               sent = at.sent;
               asked = at.asked;
@@ -353,6 +402,23 @@ module _ (plan : EquipmentPlan) where
 
   -- ---- over all starts
 
+  start-so : (other : EquipmentPlan) (file : SpoolFile) (notes : List Happening) → AreSound notes
+      → IsReachedSo [] (started_on other file).next (noted_behind (started_on other file).notes notes)
+  start-so other file notes sound = record {
+    runs = refl;
+    most = omega (arith);
+    all = refl;
+    odd = tt;
+    sound = noted.sound sound;
+    few = λ body.
+        let none : count_of body (datas_in (noted_behind (started_on other file).notes notes)) ≡ 0 =
+        ap (λ (sent : List (List ℕ)). count_of body sent) noted.datas in
+        omega (arith, none);
+  }
+    where
+      noted : IsStartNoted notes (noted_behind (started_on other file).notes notes)
+      noted = start-noted other file notes
+
   started-so : (other : EquipmentPlan) (file : SpoolFile) (steps : List Stepped) (notes : List Happening)
       → AreFew steps notes → IsCourseSo (steps_started (starts other file) steps) (went_on (starts other file) notes)
   started-so other file steps notes few = go (is_marked_out file.mark.value)
@@ -364,14 +430,7 @@ module _ (plan : EquipmentPlan) where
 
       go : (spent : Bool) → IsCourseSo (steps_started (went spent) steps) (went_on (went spent) notes)
       go true = few
-      go false = record {
-        runs = refl;
-        most = omega (arith);
-        all = refl;
-        odd = tt;
-        sound = few.sound;
-        few = λ body. omega (arith);
-      }
+      go false = start-so other file notes few.sound
 
   pub power-so : (steps : List Stepped) (notes : List Happening) → AreFew steps notes
       → AreFew steps (Happening.Power ∷ notes)
@@ -437,15 +496,7 @@ module _ (plan : EquipmentPlan) where
         → AllCanBeSent file.list → (meetings : List (Meeting ToolCommand))
         → IsCourseSo (steps_met (started_on plan file) meetings)
         (course_of (started_on plan file) machine meetings)
-    course-so fits tables file can [] =
-        record {
-          runs = refl;
-          most = omega (arith);
-          all = refl;
-          odd = tt;
-          sound = (tt, tt);
-          few = λ body. omega (arith);
-        }
+    course-so fits tables file can [] = start-so plan file [] (tt, tt)
     course-so fits tables file can (meeting ∷ meetings) =
         meeting-so meeting (steps_met (started_on plan file) meetings)
         (course_of (started_on plan file) machine meetings)

@@ -6,6 +6,7 @@ use Rattle.gem_shapes.specs.Answers.{code_item}
 use Rattle.gem_shapes.specs.Primaries.{is_known, is_known_stream}
 use Rattle.gem_shapes.specs.declared.request.Request.{Request}
 use Rattle.gem_shapes.specs.declared.request.Request.TheVariants as request
+use Rattle.gem_shapes.specs.declared.request.TablesRequest.{TablesRequest}
 use Rattle.gem_states.specs.declared.comms.CommsIn.TheVariants as comms_in
 use Rattle.gem_states.specs.declared.control.ControlIn.TheVariants as control_in
 use Rattle.gem_trace.specs.declared.request.Tiaack.{Tiaack}
@@ -22,6 +23,7 @@ use Rattle.message_flow.specs.declared.flow.Flow.TheVariants as flow
 use Rattle.message_flow.specs.declared.message.Message.{Message}
 use Rattle.message_flow.specs.Message.{is_primary}
 use Rattle.secs_items.specs.declared.item.Item.{Item}
+use Rattle.setup_store.specs.Entries.{Entry, bytes_of, has_room}
 use Rattle.trace_log.specs.declared.commands.ToolCommand.{ToolCommand}
 use Rattle.trace_log.specs.Log.{Happening, Past}
 use Rattle.transact.specs.declared.transactions.Match.{Match}
@@ -41,18 +43,19 @@ use Rattle.equipment_tables.specs.Requests.{request_of}
 use Rattle.tool_step.specs.declared.kind.Kind.{Kind}
 use Rattle.tool_step.specs.declared.kind.Kind.TheVariants as kind
 use Rattle.tool_step.specs.Codes.{is_accepted_in, is_granted_in}
-use Rattle.tool_step.specs.Messages.{dropped_turn, error_turn, established_turn, is_establish_request, is_online_request, known_turn, message_turn, offline_turn, primary_turn, read_turn, request_turn, stray_turn}
+use Rattle.tool_step.specs.Messages.{dropped_turn, error_turn, established_turn, is_establish_request, is_online_request, heard_turn, keep_turn, kept_turn, known_turn, message_turn, offline_turn, primary_turn, read_turn, request_turn, requested_turn, stray_turn, unkept_turn}
 use Rattle.tool_step.specs.Own.{OwnView, ToolTurn, is_communicating, is_enabled_in, is_online, quiet_turn, turn_of, waiting_report, waiting_data, without_grant, without_report, without_waiting_data}
 use Rattle.tool_step.specs.Replies.{granted_turn, given_up_turn, loss_turn, matched_turn, reply_turn, secondary_turn}
 use Rattle.tool_step.specs.Sampling.{granted_trace_turn, running_by, tiaack_code, tiaack_in, trace_turn}
 use Rattle.tool_step.specs.Sent as sent
+use Rattle.tool_step.specs.Setup.{next_kept}
 use Rattle.tool_step.specs.Spooling.{confirmed_turn, grant_given_turn}
 use Rattle.tool_step.specs.States as states
 use Rattle.tool_step.specs.Step.{failed_turn, flow_turn, input_part, is_spent, long_turn, took_turn}
 use Rattle.tool_step.specs.Tool.{command_turn, told_turn}
 use Rattle.tool_law.proofs.CoreSteps.{CoreStep}
 use Rattle.tool_reports.specs.Sampled.{setting_by, setting_in, setting_of}
-use Rattle.tool_traces.proofs.IdleMessages.{abort-turn-idle, answer-idle, command-idle, confirmed-idle, control-request-idle, dropped-idle, error-idle, established-idle, given-idle, given-up-idle, grant-idle, loss-idle, offline-idle, purge-idle, stray-idle, transmit-idle}
+use Rattle.tool_traces.proofs.IdleMessages.{abort-turn-idle, answer-idle, command-idle, confirmed-idle, control-request-idle, dropped-idle, error-idle, established-idle, given-idle, given-up-idle, grant-idle, keep-idle, loss-idle, offline-idle, purge-idle, stray-idle, transmit-idle, unkept-idle}
 use Rattle.tool_traces.proofs.IdleNotes.{Reads, reads-asked}
 use Rattle.tool_law.proofs.TurnWalks.{fixed-of, led-of, nothing-of}
 use Rattle.tool_traces.proofs.IdleTurns.{IsIdleTurn, answers-idle, comms-idle, control-idle, errors-idle, itself, kept, leaving-idle}
@@ -211,13 +214,26 @@ module _ (before : List Happening) (look : Look) (past : List TraceEntry) (due :
 
   -- ---- requests
 
-  request-takes : (asked : Request) (message : Message) (own : OwnView) → own.tables.vars ≡ look.vars
-      → request_of message.stream message.function message.body ≡ Some asked
-      → Takes own
-      (led_turn (Note (Happening.Recorded (Past.Asked message))) (request_turn asked look.now message own))
-  request-takes (request.OfTables asked) message own vars is =
+  -- by the list that is to be kept behind one that changes the setup
+  set-up-takes : (list : Option (List Entry)) (asked : TablesRequest) (message : Message) (own : OwnView)
+      → request_of message.stream message.function message.body ≡ Some (request.OfTables asked)
+      → Takes own (heard_turn list look.now (request.OfTables asked) message own)
+  set-up-takes None asked message own is =
       others (Some (request.OfTables asked)) message own (request_turn (request.OfTables asked) look.now message own) is
       refl (answer-idle asked message own)
+  set-up-takes (Some list) asked message own is = go (has_room (bytes_of list))
+    where
+      go : (room : Bool) → Takes own (kept_turn room list (request.OfTables asked) message own)
+      go true =
+          others (Some (request.OfTables asked)) message own (keep_turn list (request.OfTables asked) message own) is
+          refl (keep-idle list (request.OfTables asked) message own)
+      go false = of-idle own (unkept_turn message own) (unkept-idle message own)
+
+  request-takes : (asked : Request) (message : Message) (own : OwnView) → own.tables.vars ≡ look.vars
+      → request_of message.stream message.function message.body ≡ Some asked
+      → Takes own (requested_turn look.now asked message own)
+  request-takes (request.OfTables asked) message own vars is =
+      set-up-takes (next_kept asked message own) asked message own is
   request-takes request.Establish message own vars is =
       others (Some request.Establish) message own (request_turn request.Establish look.now message own) is refl
       (abort-turn-idle message own)

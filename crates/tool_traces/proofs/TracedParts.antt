@@ -37,7 +37,7 @@ use Rattle.tool_step.specs.Sampling.{made_part, sample_parts, sampling}
 use Rattle.tool_step.specs.Sent as sent
 use Rattle.tool_step.specs.Spooling.{dataid_in, end_of_spooling, inquiry_turn, needs_grant, sent_turn, stopped_turn, taking_turn, tried_turn, unload_part, unloaded, unloaded_own, unloading_turn, waiting_text}
 use Rattle.tool_step.specs.States as states
-use Rattle.tool_step.specs.Step.{begun, beginning, delay_timer, failed_turn, first_parts, input_part, last_parts, late_parts, line_timer, offer}
+use Rattle.tool_step.specs.Step.{answering, begun, beginning, delay_timer, failed_turn, first_parts, input_part, last_parts, late_parts, line_timer, offer}
 use Rattle.equipment_tables.specs.declared.answers.Answer.{Answer as Text}
 use Rattle.equipment_tables.specs.declared.answers.Answer.TheVariants as answer
 use Rattle.tool_law.proofs.CoreSteps.{CoreStep}
@@ -45,7 +45,7 @@ use Rattle.tool_reports.specs.Reported.{is_of, tries_in}
 use Rattle.tool_reports.specs.Sampled.{datas_in, is_data, is_text_of, setting_in, settings_in}
 use Rattle.tool_reports.proofs.QuietNotes.{one-behind}
 use Rattle.tool_traces.proofs.IdleCommands.{ReadsStep}
-use Rattle.tool_traces.proofs.IdleMessages.{after-idle, block-timer-idle, reply-timer-idle}
+use Rattle.tool_traces.proofs.IdleMessages.{after-idle, answering-idle, block-timer-idle, reply-timer-idle}
 use Rattle.tool_traces.proofs.IdleNotes.{AreSound, Reads, amid-more, idle-note, reads-idle}
 use Rattle.tool_law.proofs.LedgerLines.{rested-lines}
 use Rattle.tool_law.proofs.TurnWalks.{fixed-of, led-of, nothing-of}
@@ -515,22 +515,26 @@ module _ (before : List Happening) (look : Look) (past : List TraceEntry) (due :
   pub last-keeps : (oldest : Option Spooled) (now : ℕ) (step : NodeStep) → AtEnd step
       → OnEither AtClosed AtSpent (after_parts Some (last_parts oldest now) step)
   last-keeps oldest now step at =
-      parts-then AtEnd AtSpent AtClosed (unload_part oldest ∷ end_of_spooling ∷ offer now ∷ []) (closes ∷ []) (
-        last-part (unload_part oldest)
-            (λ own e core is so.
-            subst
-            (λ (f : EndView Kind). EndsWell (unload_part oldest own f).own
-            (all_done Some (unload_part oldest own f).duties core)) is (unload-well oldest own core so)),
+      parts-then AtEnd AtSpent AtClosed (answering ∷ unload_part oldest ∷ end_of_spooling ∷ offer now ∷ [])
+      (closes ∷ []) (
+        idle-part answering (λ own e. answering-idle own e),
         (
-          idle-part end_of_spooling
-              (λ own e.
-              booked-idle own (rested (is_communicating own) own.ledger)
-              (rested-lines spool-idle (is_communicating own) own.ledger)),
+          last-part (unload_part oldest)
+              (λ own e core is so.
+              subst
+              (λ (f : EndView Kind). EndsWell (unload_part oldest own f).own
+              (all_done Some (unload_part oldest own f).duties core)) is (unload-well oldest own core so)),
           (
-            idle-part (offer now)
+            idle-part end_of_spooling
                 (λ own e.
-                led-of own (Offer now) (fixed_turn own []) tt (fixed-of own own [] (itself own) tt)),
-            tt,
+                booked-idle own (rested (is_communicating own) own.ledger)
+                (rested-lines spool-idle (is_communicating own) own.ledger)),
+            (
+              idle-part (offer now)
+                  (λ own e.
+                  led-of own (Offer now) (fixed_turn own []) tt (fixed-of own own [] (itself own) tt)),
+              tt,
+            ),
           ),
         ),
       ) step at

@@ -24,5 +24,5 @@ also-live false is = absurd (cc)
 
 pub returns : goal.returns
 returns c = λ plan ceid vid value message is reported.
-    let of = (reported.1.s6f11 (also-live (is_of 6 11 message) is)).of_event in
+    let of = (reported.0.1.s6f11 (also-live (is_of 6 11 message) is)).of_event in
     of-planned plan ceid of.event message.body of.happened of.text
