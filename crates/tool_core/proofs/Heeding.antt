@@ -1,5 +1,5 @@
 -- How a message is heeded, as the code does it.
-use Rattle.std.proofs.Common.{◌≡◌, refl, sym, ap, subst, ◌∙◌, Bool, true, not, ◌&&◌, ℕ, List, [], ◌∷◌, ◌++◌, Option, Some, if◌then◌else◌}
+use Rattle.std.proofs.Common.{◌≡◌, refl, sym, ap, subst, ◌∙◌, Bool, true, false, not, ◌&&◌, ℕ, List, [], ◌∷◌, ◌++◌, Option, Some, None, if◌then◌else◌}
 use Rattle.std.specs.Prelude.{Result, Ok, Err, IfOk, map}
 use Rattle.std.specs.List.{filter_map}
 use Rattle.block_codec.specs.declared.header.Header.{Header}
@@ -9,6 +9,7 @@ use Rattle.gem_states.specs.declared.comms.CommsIn.TheVariants.{HostRequest}
 use Rattle.message_flow.specs.declared.message.Message.{Message}
 use Rattle.message_flow.specs.declared.step.Note.{Note}
 use Rattle.message_flow.specs.declared.step.StepOut.{StepOut}
+use Rattle.setup_store.specs.Entries.{Entry, bytes_of, has_room}
 use Rattle.trace_log.specs.declared.names.Name.{Name}
 use Rattle.trace_log.specs.Log.{Happening, Past}
 use Rattle.trace_log.specs.Names.{message_name}
@@ -23,7 +24,7 @@ use Rattle.equipment_tables.specs.Requests.{request_of}
 use Rattle.equipment_tables.specs.Tables.{TablesState}
 use Rattle.tool_step.specs.declared.kind.Kind.{Kind}
 use Rattle.tool_step.specs.declared.kind.Kind.TheVariants as kind
-use Rattle.tool_step.specs.Messages.{dropped_turn, error_turn, established_duties, established_turn, is_establish_request, is_online_request, known_turn, offline_turn, own_s1f13_commands, own_s1f13_duty, primary_turn, read_turn, request_turn, stray_turn}
+use Rattle.tool_step.specs.Messages.{dropped_turn, error_turn, established_duties, established_turn, heard_turn, is_establish_request, is_online_request, keep_turn, kept_turn, known_turn, offline_turn, own_s1f13_commands, own_s1f13_duty, primary_turn, read_turn, request_turn, requested_turn, stray_turn, unkept_turn}
 use Rattle.tool_step.specs.Own.{OwnView, ToolDuty, ToolTurn, is_communicating, is_online, turn_of, with_tables}
 use Rattle.tool_step.specs.Reports.{unreported_turn}
 use Rattle.tool_step.specs.Sent.{answer_duties}
@@ -136,7 +137,7 @@ pub read_so :
     (old new : ToolNode) (out out_new : StepOut) (result : Result A Stop)
     → is_known_stream message.stream ≡ true → is_known message.stream message.function ≡ true
     → found ≡ request_of message.stream message.function message.body → found ≡ Some asked
-    → Takes (request_turn asked now message old.own) old out new out_new result
+    → Takes (requested_turn now asked message old.own) old out new out_new result
     → Takes (known_turn now header message old.own) old out new out_new result
 read_so A now header message found asked old new out out_new result stream function read is does =
     subst (λ (turn : ToolTurn). Takes turn old out new out_new result)
@@ -145,7 +146,39 @@ read_so A now header message found asked old new out out_new result stream funct
     ∙ ap (λ (b : Bool). judged_by now header message old.own true b
     (request_of message.stream message.function message.body)) function
     ∙ ap (λ (o : Option Request). judged_by now header message old.own true true o) (sym read ∙ is)))
-    (recorded (Past.Asked message) (request_turn asked now message old.own) old new out out_new result does)
+    does
+
+-- ---- by what is to be kept behind it
+
+module _
+    (A : Type 0) (now : ℕ) (asked : Request) (message : Message) (list : Option (List Entry)) (old new : ToolNode)
+    (out out_new : StepOut) (result : Result A Stop) where
+  pub heard_same : list ≡ None → Takes (request_turn asked now message old.own) old out new out_new result
+      → Takes (heard_turn list now asked message old.own) old out new out_new result
+  heard_same none does =
+      subst (λ (l : Option (List Entry)). Takes (heard_turn l now asked message old.own) old out new out_new result)
+      (sym none)
+      (recorded (Past.Asked message) (request_turn asked now message old.own) old new out out_new result does)
+
+  pub heard_kept :
+      (kept : List Entry) → list ≡ Some kept → has_room (bytes_of kept) ≡ true
+      → Takes (keep_turn kept asked message old.own) old out new out_new result
+      → Takes (heard_turn list now asked message old.own) old out new out_new result
+  heard_kept kept is room does =
+      subst (λ (l : Option (List Entry)). Takes (heard_turn l now asked message old.own) old out new out_new result)
+      (sym is)
+      (subst (λ (b : Bool). Takes (kept_turn b kept asked message old.own) old out new out_new result) (sym room)
+      (recorded (Past.Asked message) (keep_turn kept asked message old.own) old new out out_new result does))
+
+  pub heard_over :
+      (over : List Entry) → list ≡ Some over → has_room (bytes_of over) ≡ false
+      → Takes (unkept_turn message old.own) old out new out_new result
+      → Takes (heard_turn list now asked message old.own) old out new out_new result
+  heard_over over is room does =
+      subst (λ (l : Option (List Entry)). Takes (heard_turn l now asked message old.own) old out new out_new result)
+      (sym is)
+      (subst (λ (b : Bool). Takes (kept_turn b over asked message old.own) old out new out_new result) (sym room)
+      does)
 
 -- S1F13 is looked at first
 abbrev primary_by : ℕ → Header → Message → OwnView → Bool → ToolTurn

@@ -3,11 +3,14 @@ pub mod Commanded
 pub mod Following
 pub mod Heeding
 pub mod Judging
+pub mod Keeping
+pub mod KeptLists
 pub mod Longer
 pub mod Lost
 pub mod OwnS1F13
 pub mod Parting
 pub mod Reading
+pub mod StartLines
 pub mod Storing
 pub mod Taking
 pub mod Texts

@@ -5,5 +5,6 @@ pub mod Judged
 pub mod Late
 pub mod Node
 pub mod OwnS1F13
+pub mod Setup
 pub mod Starting
 pub mod Turns

@@ -20,12 +20,14 @@ abbrev pub own_of : Own → OwnView
 own_of own = record {
   plan = own.plan;
   tables = state_of own.tables;
+  setup = own.setup;
   comms = own.comms;
   control = own.control;
   for_grant = own.for_grant.items;
   reports = own.reports.items;
   ledger = own.ledger;
   tried = own.tried;
+  owed = own.owed;
   tracing = tracing_of own.tracing;
   events = own.events;
   has_begun = own.has_begun;

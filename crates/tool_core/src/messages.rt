@@ -1,6 +1,7 @@
 //! How the equipment treats a whole message of the host.
 
-ghost use Rattle.std.specs.Prelude.{IfOk, ◌≡◌, ◌<◌, ◌^◌, ◌∷◌, [], ◌++◌};
+ghost use Rattle.std.specs.Prelude.{IfOk, ◌≡◌, ◌<◌, ◌≤◌, ◌^◌, ◌∷◌, [], ◌++◌, length};
+ghost use Rattle.block_codec.specs.Protocol.{longest_text};
 ghost use Rattle.block_codec.specs.Header.{Fits};
 ghost use Rattle.secs_items.specs.Checking.{check_of};
 ghost use Rattle.message_end.specs.Parts.{AreCarried, after_turn, on_the_way};
@@ -10,13 +11,16 @@ ghost use Rattle.tool_core.specs.Node.{node_of, own_of};
 ghost use Rattle.tool_core.specs.OwnS1F13.{place_behind};
 ghost use Rattle.tool_step.specs.Own.{turn_of};
 ghost use Rattle.tool_core.specs.Judged.{IsShort};
-ghost use Rattle.tool_step.specs.Sent.{answer_duties};
-ghost use Rattle.tool_step.specs.Messages.{answer_turn, control_request_turn, dropped_turn, established_duties, established_turn, is_establish_request, is_online_request, known_turn, message_turn, offline_turn, own_s1f13_commands, own_s1f13_duty, primary_turn, request_turn, stray_turn};
+ghost use Rattle.tool_step.specs.Sent.{answer_duties, text_of};
+ghost use Rattle.tool_step.specs.Setup.{accepted_item as accepted};
+ghost use Rattle.tool_step.specs.Step.{answering};
+ghost use Rattle.tool_step.specs.Messages.{answer_turn, control_request_turn, dropped_turn, established_duties, established_turn, is_establish_request, is_online_request, keep_turn, known_turn, message_turn, offline_turn, own_s1f13_commands, own_s1f13_duty, primary_turn, request_turn, requested_turn, stray_turn, unkept_turn};
 ghost use Rattle.equipment_tables.specs.Requests.{IsAsked, IsAskedOfTables};
 ghost use Rattle.tool_core.specs.Turns.{TakesPart, TakesTurn};
 
 use crate::own::Tool;
 use crate::sending::note_dropped;
+use crate::setup::{KeptSetup, NextSetup, change, has_space_code, note_keeping, untold};
 use block_codec::Header;
 use equipment_tables::{Answer, bounded, request_of};
 use gem_shapes::{Request, TablesRequest, code_item, is_known, is_known_stream};
@@ -25,10 +29,14 @@ use gem_trace::TraceRequest;
 use gl_base::{NoMemory, Row};
 use message_end::Stop;
 use message_flow::{Message, StepOut};
-use secs_items::BodyCheck;
+use secs_items::{BodyCheck, Item};
+use spool_rule::RuleAnswer;
 use std::alloc::Global;
-use tool_step::Kind;
+use tool_step::{Kind, Owed};
 use trace_log::Name;
+
+// DRACK and LRACK for want of space.
+const NO_SPACE: u8 = 1;
 
 impl Tool {
     /// A whole message came, the last block of which has this header, and the check of its text.
@@ -44,6 +52,7 @@ impl Tool {
         requires now { now < 2 ^ 62 }
         requires header { Fits header.now }
         requires checked { check.now ≡ check_of message.now.body }
+        requires short { length message.now.body ≤ longest_text }
         ensures does { TakesPart (message_turn now header.now message.now) self.old out.old self.new out.new result }
         ensures line { out.new.line ≡ out.old.line }
     {
@@ -70,6 +79,7 @@ impl Tool {
         requires now { now < 2 ^ 62 }
         requires header { Fits header.now }
         requires checked { check.now ≡ check_of message.now.body }
+        requires short { length message.now.body ≤ longest_text }
         ensures does { TakesTurn (primary_turn now header.now message.now) self.old out.old self.new out.new result }
         ensures line { out.new.line ≡ out.old.line }
     {
@@ -210,6 +220,7 @@ impl Tool {
         requires now { now < 2 ^ 62 }
         requires header { Fits header.now }
         requires checked { check.now ≡ check_of message.now.body }
+        requires short { length message.now.body ≤ longest_text }
         ensures does { TakesTurn (known_turn now header.now message.now) self.old out.old self.new out.new result }
         ensures line { out.new.line ≡ out.old.line }
     {
@@ -221,9 +232,91 @@ impl Tool {
         }
         let body = message.body.as_slice();
         match request_of(alloc, message.stream, message.function, body, check)? {
-            Some(request) => self.fulfil(alloc, &request, message, now, out),
+            Some(request) => self.heed_request(alloc, &request, message, now, out),
             None => self.tell_error(alloc, 7, header, out),
         }
+    }
+
+    // Carries a request out, unless it changes the setup and there is no room to keep that.
+    fn heed_request(
+        &mut self,
+        alloc: Global,
+        request: &Request<'_>,
+        message: &Message,
+        now: u64,
+        out: &mut StepOut,
+    ) -> Result<(), Stop>
+        requires now { now < 2 ^ 62 }
+        requires asked { IsAsked request.now }
+        requires short { length message.now.body ≤ longest_text }
+        ensures does { TakesTurn (requested_turn now request.now message.now) self.old out.old self.new out.new result }
+        ensures line { out.new.line ≡ out.old.line }
+    {
+        let next = self.own.next_setup(alloc, request, message)?;
+        match next {
+            NextSetup::Same => self.fulfil(alloc, request, message, now, out),
+            NextSetup::Kept(list) => self.keep(alloc, request, list, message, out),
+            NextSetup::Over => self.refuse(alloc, message, out),
+        }
+    }
+
+    // Changes the tables by a request, and keeps this list with it: that is owed to the file, and the answer waits.
+    fn keep(
+        &mut self,
+        alloc: Global,
+        request: &Request<'_>,
+        list: KeptSetup,
+        message: &Message,
+        out: &mut StepOut,
+    ) -> Result<(), Stop>
+        requires { IsAsked request.now }
+        ensures does { TakesTurn (keep_turn list request.now message.now) self.old out.old self.new out.new result }
+        ensures line { out.new.line ≡ out.old.line }
+    {
+        change(alloc, request, &mut self.own.tables)?;
+        self.own.setup = Some(list);
+        self.own.owed = Some(Owed::Keep(untold(alloc, message)));
+        note_keeping(alloc, Name::of(message), out)?;
+        Ok(())
+    }
+
+    // Refuses a change of the setup for which there is no room.
+    fn refuse(&mut self, alloc: Global, message: &Message, out: &mut StepOut) -> Result<(), Stop>
+        ensures does { TakesTurn (unkept_turn message.now) self.old out.old self.new out.new result }
+        ensures line { out.new.line ≡ out.old.line }
+    {
+        if has_space_code(message) {
+            return self.answer_code(alloc, NO_SPACE, message, out);
+        }
+        self.abort(alloc, message, out)
+    }
+
+    /// Answers the primary that waits for what it has asked of an object outside, if one does.
+    pub(crate) fn answer_owed(&mut self, alloc: Global, out: &mut StepOut) -> Result<(), Stop>
+        ensures does { TakesPart answering self.old out.old self.new out.new result }
+        ensures line { out.new.line ≡ out.old.line }
+    {
+        match self.own.owed.take() {
+            Some(Owed::Keep(primary)) => self.accept_kept(alloc, &primary, out),
+            None => Ok(()),
+        }
+    }
+
+    // Answers a primary that was kept.
+    fn accept_kept(
+        &mut self,
+        alloc: Global,
+        primary: &Message,
+        out: &mut StepOut,
+    ) -> Result<(), Stop>
+        ensures does { TakesTurn
+            (λ own. turn_of own (answer_duties (text_of own (accepted primary.now)) primary.now))
+            self.old out.old self.new out.new result }
+        ensures line { out.new.line ≡ out.old.line }
+    {
+        let item = accepted_item(alloc, primary)?;
+        let answer = bounded(alloc, &item, self.own.max_body())?;
+        self.answer_by(alloc, answer, primary, out)
     }
 
     // Carries a request out, and answers it. S1F13 doesn't come here.
@@ -328,6 +421,16 @@ impl Tool {
             Answer::TooLong => self.abort_long(alloc, message, out),
         }
     }
+}
+
+// How a primary is answered that was kept.
+fn accepted_item(alloc: Global, primary: &Message) -> Result<Item, NoMemory>
+    ensures { IfOk result (λ item. item ≡ accepted primary.now) }
+{
+    if primary.function == 43 {
+        return RuleAnswer::Replaced.reply(alloc);
+    }
+    code_item(alloc, 0)
 }
 
 // Whether it is S1F13.

@@ -5,9 +5,13 @@ ghost use Rattle.block_codec.specs.Protocol.{longest_text};
 ghost use Rattle.line_end.specs.Plan.{LinePlanFits};
 ghost use Rattle.tool_core.specs.Node.{own_of, tracing_of};
 ghost use Rattle.tool_step.specs.Equipment.{new_own, no_traces};
+ghost use Rattle.tool_step.specs.Setup.{carried_lines, found_list, set_up as set_up_so};
+ghost use Rattle.message_end.specs.Ends.{printed};
+ghost use Rattle.equipment_tables.specs.Tables.{planned_tables, state_of};
 ghost use Rattle.tool_step.specs.Own.{is_communicating_in, is_enabled_in, is_local_in, is_online_in, with_for_grant, with_reports, with_waiting_data};
 ghost use Rattle.equipment_tables.specs.Plan.{EquipmentPlanFits};
 
+use crate::setup::KeptSetup;
 use crate::spoolable::{ForGrant, Live};
 use equipment_tables::{EquipmentPlan, Tables};
 use gem_states::{Comms, CommsState, Control, ControlState};
@@ -15,11 +19,12 @@ use gem_trace::Traces;
 use gl_base::{NoMemory, Row};
 use line_end::LinePlan;
 use message_end::MessageEnd;
+use message_flow::StepOut;
 use secs_items::Item;
 use spool_ledger::Ledger;
 use std::alloc::Global;
 use std::marker::Model;
-use tool_step::Kind;
+use tool_step::{Kind, Owed};
 
 /// A plan that fits.
 #[derive(Drop)]
@@ -58,19 +63,22 @@ pub struct Tracing {
     pub for_grant: Vec<ForGrant>,
 }
 
-/// What the equipment keeps beside the core: its plan and tables, its two state models, the reports that wait for
-/// their grants, those that aren't answered yet, what becomes of the spool, the system bytes with which a message of it
-/// was tried last, its traces, how many events have happened since the start, and whether its first step is over.
+/// What the equipment keeps beside the core: its plan and tables, the setup that its file keeps, if it has room for
+/// one, its two state models, the reports that wait for their grants, those that aren't answered yet, what becomes of
+/// the spool, the system bytes with which a message of it was tried last, what this step asks of an object outside, its
+/// traces, how many events have happened since the start, and whether its first step is over.
 #[derive(Drop)]
 pub struct Own {
     pub plan: Planned,
     pub tables: Tables,
+    pub setup: Option<KeptSetup>,
     pub comms: Comms,
     pub control: Control,
     pub for_grant: Vec<ForGrant>,
     pub reports: Vec<Live>,
     pub ledger: Ledger,
     pub tried: Option<u32>,
+    pub owed: Option<Owed>,
     pub tracing: Tracing,
     pub events: u32,
     pub has_begun: bool,
@@ -123,23 +131,55 @@ impl Tracing {
     }
 }
 
+// The tables of a start, with the setup that was found.
+fn set_up(
+    alloc: Global,
+    plan: &EquipmentPlan,
+    setup: &Option<KeptSetup>,
+    out: &mut StepOut,
+) -> Result<Tables, NoMemory>
+    requires { EquipmentPlanFits plan.now }
+    ensures tables { IfOk result (λ tables. state_of tables
+        ≡ set_up_so (planned_tables plan.now) (found_list setup.now)) }
+    ensures notes { IfOk result (λ tables. out.new.notes
+        ≡ out.old.notes ++ printed (carried_lines (planned_tables plan.now) (found_list setup.now))) }
+    ensures line { out.new.line ≡ out.old.line }
+{
+    let mut tables = Tables::new(alloc, plan)?;
+    if let Some(list) = setup {
+        list.carry_out(alloc, &mut tables, out)?;
+    }
+    Ok(tables)
+}
+
 impl Own {
-    /// What is kept at a start, with what is known of the spool.
-    pub(crate) fn new(alloc: Global, plan: EquipmentPlan, ledger: Ledger) -> Result<Own, NoMemory>
+    /// What is kept at a start, with the setup that was found, which is carried out, and what is known of the spool.
+    pub(crate) fn new(
+        alloc: Global,
+        plan: EquipmentPlan,
+        setup: Option<KeptSetup>,
+        ledger: Ledger,
+        out: &mut StepOut,
+    ) -> Result<Own, NoMemory>
         requires { EquipmentPlanFits plan }
-        ensures { IfOk result (λ own. own_of own ≡ new_own plan ledger) }
+        ensures own { IfOk result (λ own. own_of own ≡ new_own plan setup ledger) }
+        ensures notes { IfOk result (λ own. out.new.notes
+            ≡ out.old.notes ++ printed (carried_lines (planned_tables plan) (found_list setup))) }
+        ensures line { out.new.line ≡ out.old.line }
     {
-        let tables = Tables::new(alloc, &plan)?;
+        let tables = set_up(alloc, &plan, &setup, out)?;
         let control = Control::new(plan.control);
         Ok(Own {
             plan: Planned::of(plan),
             tables,
+            setup,
             comms: Comms::new(),
             control,
             for_grant: Vec::new(alloc),
             reports: Vec::new(alloc),
             ledger,
             tried: None,
+            owed: None,
             tracing: Tracing::new(alloc),
             events: 0,
             has_begun: false,

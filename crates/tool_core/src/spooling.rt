@@ -94,8 +94,8 @@ impl Tool {
         self.answer_code(alloc, rsda, message, out)
     }
 
-    // Answers a message by a code.
-    fn answer_code(
+    /// Answers a message by a code.
+    pub(crate) fn answer_code(
         &mut self,
         alloc: Global,
         code: u8,

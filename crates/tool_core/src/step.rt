@@ -4,7 +4,8 @@ ghost use Rattle.std.specs.Prelude.{◌≡◌, ◌+◌, ◌<◌, ◌≤◌, ◌^
 ghost use Rattle.arrayvec.specs.ArrayVec.{array_vec_len};
 ghost use Rattle.block_codec.specs.Header.{Fits};
 ghost use Rattle.message_flow.specs.declared.flow.Flow.TheVariants as flow;
-ghost use Rattle.message_flow.specs.Assembly.{WholeIsChecked};
+ghost use Rattle.block_codec.specs.Protocol.{longest_text};
+ghost use Rattle.message_flow.specs.Assembly.{WholeFits, WholeIsChecked};
 ghost use Rattle.trace_log.specs.Commands.{ToolCommandFits};
 ghost use Rattle.trace_log.specs.Text.{printed_note};
 ghost use Rattle.message_end.specs.Core.Went.{Goes};
@@ -13,7 +14,7 @@ ghost use Rattle.message_end.specs.Parts.{Takes, after_turn, closes, on_the_way}
 ghost use Rattle.tool_core.specs.Node.{node_of, own_of};
 ghost use Rattle.tool_step.specs.Sampling.{sample_parts};
 ghost use Rattle.tool_step.specs.Spooling.{end_of_spooling};
-ghost use Rattle.tool_step.specs.Step.{beginning, character, delay_timer, due_parts, first_parts, flow_turn, input_part, is_spent, late_parts, line_timer, offer};
+ghost use Rattle.tool_step.specs.Step.{answering, beginning, character, delay_timer, due_parts, first_parts, flow_turn, input_part, is_spent, late_parts, line_timer, offer};
 ghost use Rattle.tool_step.specs.Taking.{taking};
 ghost use Rattle.tool_core.specs.Turns.{ReachesPart, ReachesParts, TakesPart};
 
@@ -69,9 +70,28 @@ impl Tool {
         }
     }
 
-    /// What comes behind the works of the spool: the oldest message, which was read, goes to the host where it was to
-    /// be taken up; spooling may end; the line gets its turn; and the step comes to its end.
+    /// What comes behind the works of a step: what waits for them is answered; the oldest message, which was read, goes
+    /// to the host where it was to be taken up; spooling may end; the line gets its turn; and the step comes to its end.
     pub fn do_last(
+        &mut self,
+        alloc: Global,
+        oldest: Option<(u64, Spoolable)>,
+        now: u64,
+        out: &mut StepOut,
+    ) -> Result<(), Stop>
+        requires now { now < 2 ^ 62 }
+        requires room { array_vec_len out.old.line ≤ 514 }
+        ensures does { ReachesParts (answering ∷ taking oldest ∷ end_of_spooling ∷ offer now ∷ closes ∷ [])
+            self.old out.old self.new out.new result }
+    {
+        match self.answer_owed(alloc, out) {
+            Ok(()) => self.end_parts(alloc, oldest, now, out),
+            Err(stop) => Err(stop),
+        }
+    }
+
+    // What comes behind the answer that waited.
+    fn end_parts(
         &mut self,
         alloc: Global,
         oldest: Option<(u64, Spoolable)>,
@@ -236,6 +256,7 @@ impl Tool {
     ) -> Result<(), Stop>
         requires now { now < 2 ^ 62 }
         requires header { Fits header.now }
+        requires fits { WholeFits longest_text flow }
         requires checked { WholeIsChecked flow }
         ensures does { ReachesPart (flow_turn now header.now flow) self.old out.old self.new out.new result }
         ensures line { out.new.line ≡ out.old.line }

@@ -1,11 +1,15 @@
 use Rattle.std.proofs.Common.{subst}
-use Rattle.message_flow.specs.Assembly.{WholeIsChecked}
+use Rattle.block_codec.specs.Protocol.{longest_text}
+use Rattle.message_flow.specs.Assembly.{WholeFits, WholeIsChecked}
 use Rattle.tool_core.specs.Node.{node_of}
 use Rattle.tool_core.proofs.Following.{reached}
 use Rattle.tool_core.proofs.own.Tool.judge.Goals as goal
 
 pub heed-requires-clause-checked : goal.heed-requires-clause-checked
 heed-requires-clause-checked c = subst WholeIsChecked c.in-Whole.is c.requires.checked
+
+pub heed-requires-clause-short : goal.heed-requires-clause-short
+heed-requires-clause-short c = (subst (WholeFits longest_text) c.in-Whole.is c.requires.fits).1
 
 pub returns-in-Whole-clause-does : goal.returns-in-Whole-clause-does
 returns-in-Whole-clause-does c =
