@@ -15,6 +15,8 @@ use Rattle.gem_spool.specs.Standing.{Standing, Stands, file_told, standing_of}
 use Rattle.gem_spool.specs.Works.{IsMarked, reserved}
 use Rattle.message_flow.specs.declared.step.Note.{Note}
 use Rattle.message_flow.specs.declared.step.StepOut.{StepOut}
+use Rattle.setup_store.specs.Entries.{Entry}
+use Rattle.setup_store.specs.OnDisk.{HoldsKept}
 use Rattle.spool_file.specs.File.{SpoolFile, StandsFor}
 use Rattle.spool_file.specs.Slot.{Message, width}
 use Rattle.spool_slots.specs.Files.{upgraded, with_mark_moved}
@@ -23,7 +25,7 @@ use Rattle.spool_slots.specs.declared.states.Spent.{Spent as Device}
 use Rattle.trace_log.specs.Log.Happening.{EquipmentStarted}
 use Rattle.trace_log.specs.Text.{note_of}
 use Rattle.message_end.specs.Core.{IsText}
-use Rattle.message_end.specs.Ends.{IsEmpty}
+use Rattle.message_end.specs.Ends.{IsEmpty, printed}
 use Rattle.message_end.specs.Parts.{Node}
 use Rattle.spool_ledger.specs.Ledger.{LedgerView, new_ledger}
 use Rattle.spool_ledger.proofs.Widths.{widths-long}
@@ -33,7 +35,8 @@ use Rattle.equipment_node.specs.declared.equipment.Starting.{Starting}
 use Rattle.equipment_node.specs.declared.equipment.Starting.TheVariants as starting
 use Rattle.tool_step.specs.declared.kind.Kind.{Kind}
 use Rattle.equipment_node.specs.Amid.{IsReady}
-use Rattle.tool_step.specs.Equipment.{EquipmentView, started_on}
+use Rattle.tool_step.specs.Equipment.{EquipmentView, setup_lines, started_on}
+use Rattle.tool_step.specs.Setup.{setup_in}
 use Rattle.spool_works.specs.Found.{first_in, found_in}
 use Rattle.tool_step.specs.Grants.{GrantView}
 use Rattle.tool_step.specs.Live.{ReportView}
@@ -55,9 +58,10 @@ use Rattle.equipment_node.proofs.Sizing.{sizes-then}
 
 pub new-ready :
     {D : Type 0} (members : disk.Ghosts D) (plan : EquipmentPlan) → EquipmentPlanFits plan → (g : GemSpool D)
-    (sizes : List ℕ) (base : ℕ) → g.spool.version ≡ 2 → AreSizes members g.spool sizes → (node : Node OwnView Kind)
-    → node ≡ new_node plan (new_ledger g.spool.slots g.spool.first sizes) base → IsReady members g.spool node
-new-ready members plan fits g sizes base two sized node is =
+    (setup : Option (List Entry)) (sizes : List ℕ) (base : ℕ) → g.spool.version ≡ 2
+    → AreSizes members g.spool sizes → HoldsKept members g.spool → (node : Node OwnView Kind)
+    → node ≡ new_node plan setup (new_ledger g.spool.slots g.spool.first sizes) base → IsReady members g.spool node
+new-ready members plan fits g setup sizes base two sized holds node is =
     subst (λ (n : Node OwnView Kind). IsReady members g.spool n) (sym is)
     (record {
       counted = record {
@@ -70,6 +74,7 @@ new-ready members plan fits g sizes base two sized node is =
         sizes = sized.are;
         some = sized.each;
       };
+      holds = holds;
       sound = record {
         plan = plan;
         fits = fits;
@@ -179,8 +184,8 @@ module _ {D : Type 0} (members : disk.Ghosts D) (plan : EquipmentPlan) (g : GemS
           (at-last fresh.told.0 _ _ t (moments fresh.told.0 fresh.told.1) is image image_is),
     )
 
-    module _ (h : GemSpool D) (base : ℕ) (done : ReservesFrom members g h (Some base))
-        (marked : Stands members h.spool (reserved st))
+    module _ (setup : Option (List Entry)) (setup_is : setup ≡ setup_in file) (h : GemSpool D) (base : ℕ)
+        (done : ReservesFrom members g h (Some base)) (marked : Stands members h.spool (reserved st))
         (moments : (s : Story) → members.told g.spool.disk ≡ Some s
         → GoesThrough s (members.told h.spool.disk) (IsMarked st))
         (line : out_new.line ≡ out_old.line)
@@ -206,15 +211,14 @@ module _ {D : Type 0} (members : disk.Ghosts D) (plan : EquipmentPlan) (g : GemS
             ∙ ap (λ (ns : List ℕ). first_in file + sum ns) (sym widths-are)
 
         pub started :
-            (result : Result (Held D) (Starting D)) → StartsWith plan h sizes base out_old out_new result
+            (result : Result (Held D) (Starting D)) → StartsWith plan h setup sizes base out_old out_new result
             → StartsOver members plan file out_new result
         started (Ok e) is = record {
           room = let left = done.0.0.0 in let mark = stands.mark in grind (arith, nat_tests, left, mark);
           node_is =
-              is.1 ∙ ap (λ (l : LedgerView). new_node plan l base) ledger-is
-              ∙ ap
-              (λ (n : ℕ).
-              new_node plan (new_ledger file.slots (first_in file) (map width file.list)) n) base-is;
+              is.1 ∙ ap (λ (l : LedgerView). new_node plan setup l base) ledger-is
+              ∙ ap (λ (n : ℕ). new_node plan setup ledger n) base-is
+              ∙ ap (λ (o : Option (List Entry)). new_node plan o ledger file.mark.value) setup_is;
           clear =
               subst (λ (x : GemSpool D). IsClear members x.spool next) (sym is.0)
               (record {
@@ -235,12 +239,20 @@ module _ {D : Type 0} (members : disk.Ghosts D) (plan : EquipmentPlan) (g : GemS
               subst (λ (x : GemSpool D). IsTold (members.told x.spool.disk)) (sym is.0)
               (let through = moments fresh.told.0 fresh.told.1 in (through.0, through.1));
           notes =
-              is.2.notes ∙ ap (λ (notes : List Note). notes ++ is.2.note ∷ []) empty.notes
-              ∙ ap (λ (note : Note). note ∷ []) (is.2.is (found_in file.list) long-is)
-              ∙ ap (λ (n : ℕ). note_of (EquipmentStarted (found_in file.list) n) ∷ []) base-is;
+              is.2.notes
+              ∙ ap (λ (notes : List Note). notes ++ is.2.note ∷ printed (setup_lines plan setup)) empty.notes
+              ∙ ap (λ (note : Note). note ∷ printed (setup_lines plan setup)) (is.2.is (found_in file.list) long-is)
+              ∙ ap
+              (λ (n : ℕ). note_of (EquipmentStarted (found_in file.list) n) ∷ printed (setup_lines plan setup)) base-is
+              ∙ ap
+              (λ (o : Option (List Entry)).
+              note_of (EquipmentStarted (found_in file.list) file.mark.value) ∷ printed (setup_lines plan o)) setup_is;
           quiet = ap (λ l. l.items) line ∙ empty.line;
         }
           where
+            ledger : LedgerView
+            ledger = new_ledger file.slots (first_in file) (map width file.list)
+
             standing_next : ℕ
             standing_next = first_in file + sum (map width file.list)
         started (Err (starting.NoMemory spent)) is = (

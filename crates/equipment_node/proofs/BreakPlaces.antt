@@ -1,24 +1,23 @@
 -- Losses of a work, and those behind others.
 use Rattle.std.proofs.Common.{◌≡◌, refl, sym, ap, ◌∙◌, suc, zero, Bool, true, false, ℕ, List, [], ◌∷◌, ◌++◌}
-use Rattle.std.proofs.Common.{append_assoc, drop, length, map, take, Some, if◌then◌else◌}
+use Rattle.std.proofs.Common.{drop, length, map, take, Some, if◌then◌else◌}
 use Rattle.std.specs.Prelude.{slice_get}
 use Rattle.disk_base.specs.Story.{Story}
-use Rattle.gem_spool.specs.declared.works.Work.{Work}
 use Rattle.gem_spool.specs.Standing.{Standing}
-use Rattle.gem_spool.specs.Works.{standing_after, standings_after}
 use Rattle.message_flow.specs.declared.step.Note.{Note}
 use Rattle.trace_log.specs.Log.{Happening}
 use Rattle.message_end.specs.Ends.{Loss, printed}
 use Rattle.equipment_node.specs.Breaking.{HasBrokenAt}
 use Rattle.spool_works.specs.Breaking.{HasLeftAt}
-use Rattle.spool_works.specs.DiskWorks.{DiskWork, behind_change, standings_behind, up_to_change}
-use Rattle.spool_works.specs.DiskWorks.DiskWork.{Change, ReadOldest, Reserve}
+use Rattle.spool_works.specs.DiskWorks.{DiskWork, standings_behind}
+use Rattle.spool_works.specs.DiskWorks.DiskWork.{ReadOldest, Reserve}
 use Rattle.tool_step.specs.Equipment.{EquipmentView}
 use Rattle.spool_works.specs.WorkLosses.{calls_at, lost_calls}
 use Rattle.tool_step.specs.Losses.{loss_at, losses_of}
 use Rattle.spool_works.proofs.LossCounts.{lost-call}
 use Rattle.equipment_node.proofs.BrokenSteps.{call-map}
-use Rattle.equipment_node.proofs.Cutting.{split-change}
+use Rattle.spool_works.proofs.EachFront.{all-whole}
+use Rattle.tool_step.proofs.LossCalls.{losses-both}
 
 pub broken-of :
     (s : EquipmentView) (one : DiskWork) (st : Standing) (front : List Happening) (call : ℕ) (t : Story)
@@ -44,26 +43,17 @@ reserve_by is = if is then Reserve ∷ [] else []
 module _ (s : EquipmentView) where
   -- at a read all is noted
   pub losses-read :
-      (works : List Work) (slots : ℕ) (reads : Bool) (st : Standing) (before notes : List Happening)
-      → losses_of s st before (map Change works ++ read_by slots reads) notes
-      ≡ losses_of s st before (map Change works) notes
-      ++ losses_of s (standings_after st works) [] (read_by slots reads) (before ++ notes)
-  losses-read [] slots true st before notes = refl
-  losses-read [] slots false st before notes = refl
-  losses-read (one ∷ works) slots reads st before notes =
-      let front = before ++ up_to_change notes in
-      ap (λ (rest : List (Loss EquipmentView)). map (loss_at s front) (lost_calls st (Change one)) ++ rest)
-      (losses-read works slots reads (standing_after st one) front (behind_change notes)
+      (works : List DiskWork) (slots : ℕ) (reads : Bool) (st : Standing) (before notes : List Happening)
+      → losses_of s st before (works ++ read_by slots reads) notes
+      ≡ losses_of s st before works notes
+      ++ losses_of s (standings_behind st works) [] (read_by slots reads) (before ++ notes)
+  losses-read works slots true st before notes =
+      losses-both s works (ReadOldest slots ∷ []) st before notes
       ∙ ap
       (λ (all : List Happening).
-      losses_of s (standing_after st one) front (map Change works) (behind_change notes)
-      ++ losses_of s (standings_after (standing_after st one) works) [] (read_by slots reads) all)
-      (append_assoc before (up_to_change notes) (behind_change notes)
-      ∙ ap (λ (all : List Happening). before ++ all) (split-change notes)))
-      ∙ sym
-      (append_assoc (map (loss_at s front) (lost_calls st (Change one)))
-      (losses_of s (standing_after st one) front (map Change works) (behind_change notes))
-      (losses_of s (standings_after (standing_after st one) works) [] (read_by slots reads) (before ++ notes)))
+      losses_of s st before works notes
+      ++ losses_of s (standings_behind st works) [] (ReadOldest slots ∷ []) all) (sym (all-whole works before notes))
+  losses-read works slots false st before notes = losses-both s works [] st before notes
 
   pub losses-reserve :
       (is : Bool) (works : List DiskWork) (st : Standing) (notes : List Happening)
@@ -83,6 +73,3 @@ pub taken : {X : Type 0} (xs : List X) (at : ℕ) (x : X) → slice_get xs at �
 taken [] at x is = absurd (cc)
 taken (y ∷ xs) zero x is = refl
 taken (y ∷ xs) (suc at) x is = ap suc (taken xs at x is)
-
-pub same-some : {X : Type 0} (one two : X) → Some one ≡ Some two → one ≡ two
-same-some one two same = cc

@@ -8,8 +8,10 @@ use Rattle.message_end.specs.Ends.{IsFront, printed}
 use Rattle.trace_log.specs.Log.{Happening, is_before_change}
 use Rattle.trace_log.specs.Text.{note_of, printed_note}
 use Rattle.equipment_node.specs.Cut.{cut_at, noted_to}
-use Rattle.spool_works.specs.DiskWorks.{DiskWork, behind_change, fronts_of, up_to_change}
-use Rattle.spool_works.specs.DiskWorks.DiskWork.{Change, ReadOldest}
+use Rattle.spool_works.specs.DiskWorks.{DiskWork, behind_change, fronts_of, lines_behind, lines_up_to, up_to_change}
+use Rattle.spool_works.specs.Owed.{owed_works}
+use Rattle.spool_works.proofs.EachFront.{lines-whole}
+use Rattle.spool_works.specs.DiskWorks.DiskWork.{ReadOldest}
 
 -- ---- the lines
 
@@ -98,14 +100,17 @@ cut-noted (suc at) (what ∷ notes) =
 
 -- ---- the fronts of the definition
 
-pub change-front :
-    (works : List Work) (rest : List DiskWork) (before notes : List Happening) (at : ℕ) (work : Work)
-    → slice_get works at ≡ Some work
-    → slice_get (fronts_of before (map Change works ++ rest) notes) at ≡ Some (before ++ noted_to at notes)
-change-front [] rest before notes at work is = absurd (cc)
-change-front (one ∷ works) rest before notes zero work is = refl
-change-front (one ∷ works) rest before notes (suc at) work is =
-    change-front works rest (before ++ up_to_change notes) (behind_change notes) at work is
+-- each work that is owed has a line
+pub owed-front :
+    (works : List Work) (setup : Option (List ℕ)) (rest : List DiskWork) (before notes : List Happening) (at : ℕ)
+    (one : DiskWork) → slice_get (owed_works works setup) at ≡ Some one
+    → slice_get (fronts_of before (owed_works works setup ++ rest) notes) at ≡ Some (before ++ noted_to at notes)
+owed-front [] None rest before notes at one is = absurd (cc)
+owed-front [] (Some bytes) rest before notes zero one is = refl
+owed-front [] (Some bytes) rest before notes (suc at) one is = absurd (cc)
+owed-front (first ∷ works) setup rest before notes zero one is = refl
+owed-front (first ∷ works) setup rest before notes (suc at) one is =
+    owed-front works setup rest (before ++ up_to_change notes) (behind_change notes) at one is
     ∙ ap (λ (all : List Happening). Some all)
     (append_assoc before (up_to_change notes) (noted_to at (behind_change notes)))
 
@@ -121,15 +126,12 @@ split-change (what ∷ rest) = go (is_before_change what) (split-change rest)
 
 -- at the read, all is noted
 pub read-front :
-    (works : List Work) (slots : ℕ) (before notes : List Happening)
-    → slice_get (fronts_of before (map Change works ++ ReadOldest slots ∷ []) notes) (length works)
-    ≡ Some (before ++ notes)
+    (works : List DiskWork) (slots : ℕ) (before notes : List Happening)
+    → slice_get (fronts_of before (works ++ ReadOldest slots ∷ []) notes) (length works) ≡ Some (before ++ notes)
 read-front [] slots before notes = refl
 read-front (one ∷ works) slots before notes =
-    read-front works slots (before ++ up_to_change notes) (behind_change notes)
-    ∙ ap (λ (all : List Happening). Some all)
-    (append_assoc before (up_to_change notes) (behind_change notes)
-    ∙ ap (λ (all : List Happening). before ++ all) (split-change notes))
+    read-front works slots (lines_up_to one before notes) (lines_behind one notes)
+    ∙ ap (λ (all : List Happening). Some all) (sym (lines-whole one before notes))
 
 -- they are first ones of all
 pub noted-front : (at : ℕ) (notes : List Happening) → IsFront (noted_to at notes) notes

@@ -78,6 +78,7 @@ module _ (input : Input ToolCommand) (now : ℕ) (old mid : Node OwnView Kind) (
         record {
           counted =
               counted-as members v old.own.ledger mid.own.ledger ready.counted is.ledger.slots_are is.ledger.stood_is;
+          holds = ready.holds;
           sound = record {
             plan = sound.plan;
             fits = sound.fits;

@@ -4,17 +4,20 @@ use Rattle.std.proofs.Common.{◌≡◌, refl, sym, ap, subst, ◌∙◌, arith,
 use Rattle.std.proofs.Common.{[]}
 use Rattle.std.proofs.Common.{◌∷◌, ◌++◌, append-nil, append_assoc, length, length-append, map, Option, Some, None}
 use Rattle.std.proofs.Common.{if◌then◌else◌}
+use Rattle.std.specs.Option.{option_map_or}
 use Rattle.std.specs.Prelude.{Result, Ok, Err}
-use Rattle.disk_base.specs.Calls.{DiskCall, written_of}
+use Rattle.disk_base.specs.Calls.{DiskCall, read_call, written_of}
 use Rattle.disk_base.specs.Cut.{image_of, settled_before, settled_if}
 use Rattle.disk_base.specs.MemDisk.{DiskState, HasFitted, after_cut, disk_health}
 use Rattle.disk_base.specs.declared.cut.CutChoice.{CutChoice}
+use Rattle.disk_base.specs.declared.disk.DiskAnswer.TheVariants.{Done}
 use Rattle.disk_base.proofs.Marks.{AreIn, image_is}
 use Rattle.disk_base.proofs.Moments.{only_now}
 use Rattle.disk_base.specs.contracts.mem_disk.MemDiskDisk.TheImpl.{ghosts}
 use Rattle.message_flow.specs.declared.step.StepOut.{StepOut}
 use Rattle.gem_spool.proofs.Doing.{same_file}
 use Rattle.spool_file.specs.File.{Ends, SpoolFile, file_in}
+use Rattle.setup_store.specs.Copies.{cell_look, copy_number, gate_look, kept_length, list_place, load_calls, names_list}
 use Rattle.spool_file.specs.Logs.{written_by}
 use Rattle.spool_file.specs.Reads.{look_back, looks_at, recover_calls, slot_behind, start_look, start_looks}
 use Rattle.spool_file.specs.Slot.{Message, width}
@@ -34,6 +37,7 @@ use Rattle.spool_works.specs.Found.{first_in}
 use Rattle.tool_step.specs.Disk.{standing_in}
 use Rattle.tool_step.specs.End.{machine, making, starting, taking_up}
 use Rattle.tool_step.specs.Equipment.{EquipmentView, is_marked_out, started_on, starts, unstarted}
+use Rattle.tool_step.specs.Setup.{loading}
 use Rattle.equipment_node.specs.Held.{Begins, HasBegunOn, Held, IsIn, view_in}
 use Rattle.equipment_node.specs.InMemory.{HasPower, IsBounded, IsLost, IsStartable, IsWhole, StartsAnew, anew_over}
 use Rattle.equipment_node.specs.InMemory.{asked_of, disk_of, disk_reach, file_cut, starts_over, state_in, stop_at_start}
@@ -43,9 +47,10 @@ use Rattle.tool_law.specs.Sound.{AllCanBeSent}
 use Rattle.equipment_node.specs.MadeReady.{ready_calls, upgrades}
 use Rattle.equipment_node.specs.StartCalls.{reserve_calls, start_calls}
 use Rattle.equipment_node.specs.StartOver.{HasStartedOver, IsSureDisk, KeepsSure}
+use Rattle.equipment_node.specs.StartSetup.{setup_looks}
 use Rattle.equipment_node.specs.StartSizes.{looks_in, size_looks}
 use Rattle.spool_works.specs.DiskCalls.{HasMade}
-use Rattle.equipment_node.proofs.BreakPlaces.{same-some}
+use Rattle.equipment_node.proofs.BrokenSteps.{same-some}
 use Rattle.equipment_node.proofs.Reaching.{same-reach, written-behind}
 use Rattle.equipment_node.proofs.Seated.{begun-ends, start-whole}
 
@@ -136,14 +141,45 @@ sizes-ask slots number (m ∷ list) =
 reserve-asks : (file : SpoolFile) → AsksSo (reserve_calls file) reserve_asks
 reserve-asks file = let copy = length_copy (file.mark.value + 4096) in (refl, omega (arith, copy))
 
+-- the setup is read before them
+looks-write : (good none : Bool) (place long : ℕ)
+    → written_by
+    (cell_look ++ (if good then (if none then [] else read_call place long Done ∷ []) else gate_look)) ≡ 0
+looks-write true true place long = refl
+looks-write true false place long = refl
+looks-write false none place long = refl
+
+setup-asks : (file : SpoolFile) → AsksSo (setup_looks file) (loading file)
+setup-asks file = go file.setup.bytes
+  where
+    value : ℕ
+    value = file.setup.cell.value
+
+    go : (kept : Option (List ℕ))
+        → AsksSo (option_map_or (λ (bytes : List ℕ). load_calls file.slots value) kept [])
+        (reading (option_map_or (λ (bytes : List ℕ). length (load_calls file.slots value)) kept 0))
+    go None = (refl, refl)
+    go (Some bytes) = (
+      refl,
+      looks-write (names_list value) (kept_length value == 0) (list_place file.slots (copy_number value))
+          (kept_length value),
+    )
+
 -- in version 2 nothing is to be upgraded
-ready-asks : (file : SpoolFile) → file.version ≡ 2 → AsksSo (ready_calls file ++ reserve_calls file) (starting file)
+ready-asks : (file : SpoolFile) → file.version ≡ 2
+    → AsksSo ((setup_looks file ++ ready_calls file) ++ reserve_calls file) (starting file)
 ready-asks file version =
-    subst (λ (calls : List DiskCall). AsksSo ((looks_in file ++ calls) ++ reserve_calls file) (starting file)) none
+    subst (λ (calls : List DiskCall). AsksSo calls (starting file))
+    (sym (append_assoc (setup_looks file) (ready_calls file) (reserve_calls file)))
+    (asks-both (setup_looks file) (ready_calls file ++ reserve_calls file) (loading file)
+    (asked_both (reading (length file.list)) reserve_asks) (setup-asks file)
+    (subst
+    (λ (calls : List DiskCall).
+    AsksSo ((looks_in file ++ calls) ++ reserve_calls file) (asked_both (reading (length file.list)) reserve_asks)) none
     (asks-both (looks_in file ++ []) (reserve_calls file) (reading (length file.list)) reserve_asks
     (subst (λ (calls : List DiskCall). AsksSo calls (reading (length file.list))) (sym (append-nil (looks_in file)))
     (sizes-ask file.slots (first_in file) file.list))
-    (reserve-asks file))
+    (reserve-asks file))))
   where
     none : [] ≡ upgrades file
     none = ap (λ (n : ℕ). if n == 1 then upgrade_calls else []) (sym version)
@@ -152,9 +188,10 @@ start-asks : (file : SpoolFile) → file.version ≡ 2
     → AsksSo (start_calls file) (asked_both (taking_up file.slots) (starting file))
 start-asks file version =
     subst (λ (calls : List DiskCall). AsksSo calls (asked_both (taking_up file.slots) (starting file)))
-    (sym (append_assoc (recover_calls file.version file.slots) (ready_calls file) (reserve_calls file)))
-    (asks-both (recover_calls file.version file.slots) (ready_calls file ++ reserve_calls file) (taking_up file.slots)
-    (starting file)
+    (sym
+    (append_assoc (recover_calls file.version file.slots) (setup_looks file ++ ready_calls file) (reserve_calls file)))
+    (asks-both (recover_calls file.version file.slots)
+    ((setup_looks file ++ ready_calls file) ++ reserve_calls file) (taking_up file.slots) (starting file)
     (subst (λ (n : ℕ). AsksSo (recover_calls n file.slots) (taking_up file.slots)) (sym version)
     (recover-asks file.slots))
     (ready-asks file version))
@@ -200,16 +237,17 @@ module _ (h : Held DiskState) (in_state : IsIn ghosts h) (sure : IsSureDisk (dis
   -- behind a first start, which finds the file made
   pub first-reach :
       (d : DiskState) (file : SpoolFile) → file.version ≡ 2
-      → HasMade ghosts d h.spool.spool.disk (ready_calls file ++ reserve_calls file) → IsBounded d
+      → HasMade ghosts d h.spool.spool.disk ((setup_looks file ++ ready_calls file) ++ reserve_calls file)
+      → IsBounded d
       → asked_of d ≡ making file.slots → (view_in ghosts h).file ≡ with_mark_moved (upgraded file)
       → disk_reach h.spool.spool.disk ≡ reach_behind (machine.first_use (view_in ghosts h))
   first-reach d file version made bounded asked file_is =
       let calls = ap (λ (a : Asked). a.calls) asked in
       let bytes = ap (λ (a : Asked). a.bytes) asked in
       let starts = ready-asks file version in
-      start-reach d h.spool.spool.disk (ready_calls file ++ reserve_calls file)
+      start-reach d h.spool.spool.disk ((setup_looks file ++ ready_calls file) ++ reserve_calls file)
       (asked_both (making file.slots) (starting file))
-      (bounded-by d h.spool.spool.disk (ready_calls file ++ reserve_calls file) made bounded) sure.stops_not made
+      (bounded-by d h.spool.spool.disk ((setup_looks file ++ ready_calls file) ++ reserve_calls file) made bounded) sure.stops_not made
       (let long = starts.0 in omega (arith, calls, long)) (let wrote = starts.1 in omega (arith, bytes, wrote))
       ∙ ap (λ (f : SpoolFile). reach_behind (asked_both (making f.slots) (starting f))) (sym file_is)
 

@@ -1,5 +1,5 @@
 -- That each call hands back the device of its spool.
-use Rattle.std.proofs.Common.{◌≡◌, ◌≢◌, inl, inr, refl, sym, subst, ◌∙◌, ℕ, List, [], ◌∷◌, take, Option, Some, None}
+use Rattle.std.proofs.Common.{◌≡◌, ◌≢◌, inl, inr, refl, sym, subst, ◌∙◌, ℕ, List, Option, Some, None}
 use Rattle.std.specs.Prelude.{Result, Ok, Err}
 use Rattle.disk_base.specs.Calls.{DiskCall}
 use Rattle.disk_base.specs.Faults.{Rose}
@@ -9,14 +9,12 @@ use Rattle.disk_base.specs.declared.disk.DiskAnswer.TheVariants.{Done, Failed}
 use Rattle.disk_base.proofs.Stretches.{same_then}
 use Rattle.gem_spool.specs.Oldest.{HasReadSlots}
 use Rattle.gem_spool.specs.Spool.{ReservesFrom}
-use Rattle.gem_spool.specs.Works.{Does, DoesAll, HasCarried, HasUndone}
 use Rattle.gem_spool.specs.declared.spool.GemSpool.{GemSpool}
-use Rattle.gem_spool.specs.declared.works.Undone.{Undone}
 use Rattle.gem_spool.specs.declared.works.Work.{Work}
-use Rattle.gem_spool.specs.declared.works.Work.TheVariants as work
 use Rattle.message_flow.specs.declared.step.Note.{Note}
 use Rattle.message_flow.specs.declared.step.StepOut.{StepOut}
-use Rattle.spool_slots.specs.Changes.{Clears, HasRecovered, Recovers, Reserves}
+use Rattle.setup_store.specs.Entries.{Entry}
+use Rattle.spool_slots.specs.Changes.{HasRecovered, Recovers, Reserves}
 use Rattle.spool_slots.specs.Spool.{SpoolView}
 use Rattle.spool_slots.specs.declared.states.Recovering.{Recovering}
 use Rattle.spool_slots.specs.declared.states.Recovering.TheVariants as recovering
@@ -34,6 +32,7 @@ use Rattle.equipment_node.specs.declared.equipment.Starting.TheVariants as start
 use Rattle.tool_step.specs.declared.kind.Kind.{Kind}
 use Rattle.equipment_node.specs.Amid.{Carries, DoesLast}
 use Rattle.tool_core.specs.Calls.{IsReached}
+use Rattle.spool_works.proofs.OwedWorks.{owed-back, owed-failed}
 use Rattle.spool_works.specs.HandedBack.{HandsBack, HasFailed, IsEnded, IsKept}
 use Rattle.equipment_node.specs.HandedBack.{StartHandsBack}
 use Rattle.equipment_node.specs.Held.{Held, starting_by}
@@ -84,54 +83,17 @@ module _ {D : Type 0} (members : disk.Ghosts D) where
   handed-then a b (Ok g) one two = kept-then a b g.spool.disk one two
   handed-then a b (Err end) one two = ended-then a b end one two
 
-  -- ---- a work
-
-  cleared-same : (v w : SpoolView D) → Clears members v (Ok w) → Same v.disk w.disk
-  cleared-same v w (inl (none, at_first, same, empty)) =
-      subst (λ (x : SpoolView D). Same v.disk x.disk) (sym same) (same-still v.disk)
-  cleared-same v w (inr (moves, is)) = moves.1.0.same_disk
-
-  work-same : (g h : GemSpool D) (one : Work) → Does members g one (Ok h) → Same g.spool.disk h.spool.disk
-  work-same g h (work.Put stream function body) does =
-      let both = does.1 in same_then both.1.0.made.same_disk both.2.0.disk.same_disk
-  work-same g h (work.DropOldest slots) does = does.0.0.made.same_disk
-  work-same g h work.Purge does = cleared-same g.spool h.spool does.0
-
-  work-failed-same :
-      (g : GemSpool D) (spent : Spent D) (one : Work) → Does members g one (Err spent) → Same g.spool.disk spent.disk
-  work-failed-same g spent (work.Put stream function body) (put, inl staged) = staged.0.made.same_disk
-  work-failed-same g spent (work.Put stream function body) (put, inr (u, staged, sealed)) =
-      same_then staged.0.made.same_disk sealed.0.disk.same_disk
-  work-failed-same g spent (work.DropOldest slots) does = does.0.made.same_disk
-  work-failed-same g spent work.Purge does = does.1.0.same_disk
-
-  works-same : (works : List Work) (g h : GemSpool D) → DoesAll members g works h → Same g.spool.disk h.spool.disk
-  works-same [] g h is = subst (λ (x : GemSpool D). Same g.spool.disk x.spool.disk) (sym is) (same-still g.spool.disk)
-  works-same (one ∷ works) g h (u, first, more) = same_then (work-same g u one first) (works-same works u h more)
-
-  -- works
-
-  pub carried-back : (g h : GemSpool D) (works : List Work) → HasCarried members g works h
-      → IsKept members g.spool.disk h.spool.disk
-  carried-back g h works is =
-      record { same_disk = works-same works g h is.done; count = is.goes_on.cause.same }
-
-  undone-back : (g : GemSpool D) (works : List Work) (undone : Undone D) → HasUndone members g works undone
-      → HasFailed members g.spool.disk undone.spent.disk
-  undone-back g works undone is = record {
-    same_disk = same_then (works-same (take undone.at works) g is.before is.done)
-        (work-failed-same is.before undone.spent is.failed is.fails);
-    rose = is.goes_on.cause.rose;
-  }
+  -- ---- works
 
   pub works-back :
-      (g : GemSpool D) (works : List Work) (out after : StepOut) (result : Result (GemSpool D) (Ended D))
-      → Carries members g works out after result → HandsBack members g.spool.disk result
-  works-back g works out after (Ok h) (is, same) = carried-back g h works is
-  works-back g works out after (Err (ended.DiskFailed spent)) is =
-      undone-back g works (record { at = is.at; spent = spent }) is.undone
-  works-back g works out after (Err (ended.NumbersSpent spent)) is = absurd is
-  works-back g works out after (Err (ended.NoMemory spent)) is = absurd is
+      (g : GemSpool D) (works : List Work) (setup : Option (List ℕ)) (out after : StepOut)
+      (result : Result (GemSpool D) (Ended D)) → Carries members g works setup out after result
+      → HandsBack members g.spool.disk result
+  works-back g works setup out after (Ok h) (is, same) = owed-back members g h works setup is
+  works-back g works setup out after (Err (ended.DiskFailed spent)) is =
+      owed-failed members g works setup (record { at = is.at; spent = spent }) is.undone
+  works-back g works setup out after (Err (ended.NumbersSpent spent)) is = absurd is
+  works-back g works setup out after (Err (ended.NoMemory spent)) is = absurd is
 
   -- ---- the other calls
 
@@ -187,16 +149,17 @@ module _ {D : Type 0} (members : disk.Ghosts D) where
   untaken-back old (recovering.Failed spent) (inr is, by) = unread-back old spent.disk _ is
 
   pub seated-back :
-      (plan : EquipmentPlan) (g : GemSpool D) (sizes : List ℕ) (base : ℕ) (out after : StepOut)
-      (result : Result (Held D) (Starting D)) → StartsWith plan g sizes base out after result
+      (plan : EquipmentPlan) (g : GemSpool D) (setup : Option (List Entry)) (sizes : List ℕ) (base : ℕ)
+      (out after : StepOut) (result : Result (Held D) (Starting D))
+      → StartsWith plan g setup sizes base out after result
       → StartHandsBack members g.spool.disk result
-  seated-back plan g sizes base out after (Ok h) starts =
+  seated-back plan g setup sizes base out after (Ok h) starts =
       subst (λ (x : GemSpool D). IsKept members g.spool.disk x.spool.disk) (sym starts.0) (kept-still g.spool.disk)
-  seated-back plan g sizes base out after (Err (starting.NoMemory spent)) starts =
+  seated-back plan g setup sizes base out after (Err (starting.NoMemory spent)) starts =
       kept-at g.spool.disk spent.disk starts
-  seated-back plan g sizes base out after (Err (starting.NumbersSpent spent)) starts = absurd starts
-  seated-back plan g sizes base out after (Err (starting.DiskFailed spent)) starts = absurd starts
-  seated-back plan g sizes base out after (Err (starting.NotSpool raw break)) starts = absurd starts
+  seated-back plan g setup sizes base out after (Err (starting.NumbersSpent spent)) starts = absurd starts
+  seated-back plan g setup sizes base out after (Err (starting.DiskFailed spent)) starts = absurd starts
+  seated-back plan g setup sizes base out after (Err (starting.NotSpool raw break)) starts = absurd starts
 
   pub start-then : (a b : D) (result : Result (Held D) (Starting D)) → IsKept members a b
       → StartHandsBack members b result → StartHandsBack members a result

@@ -22,7 +22,8 @@ use Rattle.trace_log.specs.Text.{printed_note}
 use Rattle.message_end.specs.Core.{EndView, Step, Went, and_then, step_in}
 use Rattle.message_end.specs.Core.Went.{Goes, Spent}
 use Rattle.message_end.specs.Laws.{read_as, went_as}
-use Rattle.message_end.specs.Parts.{Node, after_parts, after_turn, closes, on_the_way}
+use Rattle.message_end.specs.Duties.{all_done}
+use Rattle.message_end.specs.Parts.{Node, after_parts, after_turn, closes, core_step, on_the_way, went_with, with_own}
 use Rattle.message_end.proofs.Leaving.{read-parts}
 use Rattle.spool_ledger.specs.Ledger.{LedgerView, Numbered, carried_out}
 use Rattle.spool_ledger.specs.Sizes.{oldest_of as oldest_size}
@@ -31,13 +32,17 @@ use Rattle.equipment_tables.specs.Tables.{most_transmitted}
 use Rattle.spool_works.specs.declared.ended.Ended.{Ended}
 use Rattle.spool_works.specs.declared.ended.Ended.TheVariants as ended
 use Rattle.tool_step.specs.declared.kind.Kind.{Kind}
-use Rattle.equipment_node.specs.Amid.{DoesLast, EndsSo, IsAt, asked_node}
+use Rattle.equipment_node.specs.Amid.{DoesLast, EndsSo, IsAt, asked_node, done_last}
 use Rattle.tool_step.specs.Disk.{standing_in}
 use Rattle.tool_step.specs.Equipment.{EquipmentView, file_step, node_step, oldest_of, with_node, went_with_file}
 use Rattle.spool_works.specs.Found.{spooled_of}
-use Rattle.tool_step.specs.Own.{OwnView, ToolPart, ToolTurn}
+use Rattle.tool_step.specs.Own.{OwnView, ToolDuty, ToolPart, ToolTurn, turn_of, unowed}
+use Rattle.tool_step.specs.declared.owed.Owed.{Owed}
+use Rattle.tool_step.specs.declared.owed.Owed.TheVariants.{Keep}
+use Rattle.tool_step.specs.Sent.{answer_duties, text_of}
+use Rattle.tool_step.specs.Setup.{accepted_item}
 use Rattle.tool_step.specs.Spooling.{end_of_spooling, taking_turn, unload_part}
-use Rattle.tool_step.specs.Step.{last_parts, offer}
+use Rattle.tool_step.specs.Step.{last_parts, offer, owed_turn}
 use Rattle.equipment_node.specs.Stepping.{IsClear, IsTold}
 use Rattle.tool_step.specs.Taking.{taking}
 use Rattle.spool_file.proofs.Contents.{IsHeld}
@@ -87,15 +92,64 @@ module _ {D : Type 0} (members : disk.Ghosts D) where
 
   -- ---- the parts
 
+  -- one went as the other, but for what is kept beside the core where the numbers are spent
+  abbrev pub GoesAs : Went (Node OwnView Kind) Note → Went (Node OwnView Kind) Note → Type 0
+  GoesAs (Goes step) other = other ≡ Goes step
+  GoesAs (Spent step) other = (last : Step (Node OwnView Kind) Note) × (other ≡ Spent last) × (last.notes ≡ step.notes)
+
+  goes-same : (one other : Went (Node OwnView Kind) Note) → one ≡ other → GoesAs one other
+  goes-same (Goes step) other same = sym same
+  goes-same (Spent step) other same = (step, sym same, refl)
+
+  -- what waits is answered, whether the number of the next message was asked for before that or not
+  module _ (now : ℕ) (n : Node OwnView Kind) (out : StepOut) (oldest : Option (ℕ × Spooled)) (there : Option Spooled)
+      (same : (e : EndView Kind) → unload_part there (unowed n.own) e ≡ taking oldest (unowed (asked_node n).own) e)
+    where
+      abbrev rest : List ToolPart
+      rest = end_of_spooling ∷ offer now ∷ closes ∷ []
+
+      behind : (went : Went (EndView Kind) Note)
+          → GoesAs (and_then (went_with (unowed (asked_node n).own) went) (after_parts printed_note (taking oldest ∷ rest)))
+          (and_then (went_with (unowed n.own) went) (after_parts printed_note (unload_part there ∷ rest)))
+      behind (Spent next) = (with_own (unowed n.own) next, refl, refl)
+      behind (Goes next) =
+          goes-same (after_parts printed_note (taking oldest ∷ rest) (with_own (unowed (asked_node n).own) next))
+          (after_parts printed_note (unload_part there ∷ rest) (with_own (unowed n.own) next))
+          (sym
+          (ap
+          (λ (turn : ToolTurn).
+          and_then (after_turn printed_note turn (with_own (unowed n.own) next)) (after_parts printed_note rest))
+          (same next.next)))
+
+      pub answered-first :
+          GoesAs (after_parts printed_note (done_last oldest now) (on_the_way (asked_node n) out))
+          (after_parts printed_note (last_parts there now) (on_the_way n out))
+      answered-first = go n.own.owed
+        where
+          turned : (duties : List ToolDuty)
+              → GoesAs
+              (and_then (after_turn printed_note (turn_of (unowed (asked_node n).own) duties) (on_the_way (asked_node n) out))
+              (after_parts printed_note (taking oldest ∷ rest)))
+              (and_then (after_turn printed_note (turn_of (unowed n.own) duties) (on_the_way n out))
+              (after_parts printed_note (unload_part there ∷ rest)))
+          turned duties = behind (all_done printed_note duties (core_step (on_the_way n out)))
+
+          go : (owed : Option Owed)
+              → GoesAs
+              (and_then (after_turn printed_note (owed_turn owed (unowed (asked_node n).own)) (on_the_way (asked_node n) out))
+              (after_parts printed_note (taking oldest ∷ rest)))
+              (and_then (after_turn printed_note (owed_turn owed (unowed n.own)) (on_the_way n out))
+              (after_parts printed_note (unload_part there ∷ rest)))
+          go None = turned []
+          go (Some (Keep primary)) = turned (answer_duties (text_of n.own (accepted_item primary)) primary)
+
   module _ (now : ℕ) (t : Step EquipmentView Happening) (mid new : Node OwnView Kind) (out after : StepOut)
       (g : GemSpool D) (oldest : Option (ℕ × Spooled)) (at : IsAt members t t.next.node out g)
       (asked : mid ≡ asked_node t.next.node)
-      (same : unload_part (oldest_of t.next) t.next.node.own t.next.node.core
-      ≡ taking oldest (asked_node t.next.node).own t.next.node.core)
+      (same : (e : EndView Kind)
+      → unload_part (oldest_of t.next) (unowed t.next.node.own) e
+      ≡ taking oldest (unowed (asked_node t.next.node).own) e)
     where
-      abbrev done : List ToolPart
-      done = taking oldest ∷ end_of_spooling ∷ offer now ∷ closes ∷ []
-
       abbrev parts : List ToolPart
       parts = last_parts (oldest_of t.next) now
 
@@ -111,19 +165,27 @@ module _ {D : Type 0} (members : disk.Ghosts D) where
             written = written;
           }) at.written
 
-      read : after_parts printed_note done (on_the_way mid out) ≡ went_as printed_note went
+      read : after_parts printed_note parts (on_the_way t.next.node out) ≡ went_as printed_note went
       read =
-          ap (λ (node : Node OwnView Kind). after_parts printed_note done (on_the_way node out)) asked
-          ∙ ap (λ (turn : ToolTurn).
-          and_then (after_turn printed_note turn (on_the_way t.next.node out))
-          (after_parts printed_note (end_of_spooling ∷ offer now ∷ closes ∷ []))) (sym same)
-          ∙ ap (after_parts printed_note parts) start
+          ap (after_parts printed_note parts) start
           ∙ read-parts {S = OwnView} {K = Kind} {N = Note} printed_note parts (node_step t)
 
+      -- what the code came to, as the parts of the definition come to it
+      come-to : (came : Went (Node OwnView Kind) Note)
+          → after_parts printed_note (done_last oldest now) (on_the_way mid out) ≡ came
+          → GoesAs came (went_as printed_note went)
+      come-to came is =
+          subst (λ (w : Went (Node OwnView Kind) Note). GoesAs came w) read
+          (subst
+          (λ (w : Went (Node OwnView Kind) Note). GoesAs w (after_parts printed_note parts (on_the_way t.next.node out)))
+          (ap (λ (node : Node OwnView Kind). after_parts printed_note (done_last oldest now) (on_the_way node out))
+          (sym asked) ∙ is) (answered-first now t.next.node out oldest (oldest_of t.next) same))
+
       pub last-done :
-          (result : Result (GemSpool D) (Ended D)) → DoesLast members g done mid out new after result
+          (result : Result (GemSpool D) (Ended D))
+          → DoesLast members g (done_last oldest now) mid out new after result
           → EndsSo members now t new after result
-      last-done (Ok h) does = go went refl (sym read ∙ does.1)
+      last-done (Ok h) does = go went refl (come-to (Goes (on_the_way new after)) does.1)
         where
           go : (w : Went (Node OwnView Kind) Happening) → went ≡ w
               → went_as printed_note w ≡ Goes (on_the_way new after) → EndsSo members now t new after (Ok h)
@@ -145,16 +207,19 @@ module _ {D : Type 0} (members : disk.Ghosts D) where
             };
           }
           go (Spent step) is whole = absurd (cc)
-      last-done (Err (ended.NumbersSpent spent)) does = go went refl (sym read ∙ does.1.is)
+      last-done (Err (ended.NumbersSpent spent)) does = go went refl came.1
         where
+          came : GoesAs (Spent (on_the_way (record new { own = does.1.own }) after)) (went_as printed_note went)
+          came = come-to (Spent (on_the_way (record new { own = does.1.own }) after)) does.1.is
+
           go : (w : Went (Node OwnView Kind) Happening) → went ≡ w
-              → went_as printed_note w ≡ Spent (on_the_way (record new { own = does.1.own }) after)
+              → went_as printed_note w ≡ Spent came.0
               → EndsSo members now t new after (Err (ended.NumbersSpent spent))
           go (Goes step) is whole = absurd (cc)
           go (Spent step) is whole = record {
             step = file_step t.next step;
             is = ap (went_with_file t.next) is;
-            notes = sym (ap (λ (x : Step (Node OwnView Kind) Note). x.notes) (same-spent whole));
+            notes = sym (ap (λ (x : Step (Node OwnView Kind) Note). x.notes) (same-spent whole) ∙ came.2);
             keeps =
                 kept-of members g.spool (standing_in (with_node t.next step.next)) spent does.0
                 (subst (λ (st : Standing). Stands members g.spool st)
@@ -173,35 +238,35 @@ module _ {D : Type 0} (members : disk.Ghosts D) where
   -- none is asked for
   pub none-asked :
       (t : Step EquipmentView Happening) → next_number (most_transmitted t.next.node.own.tables) t.next.node.own.ledger ≡ None
-      → unload_part (oldest_of t.next) t.next.node.own t.next.node.core
-      ≡ taking None (asked_node t.next.node).own t.next.node.core
-  none-asked t none =
+      → (e : EndView Kind) → unload_part (oldest_of t.next) (unowed t.next.node.own) e
+      ≡ taking None (unowed (asked_node t.next.node).own) e
+  none-asked t none e =
       ap (λ (number : Option ℕ).
-      taking_turn number (oldest_of t.next) (asked_node t.next.node).own t.next.node.core) none
+      taking_turn number (oldest_of t.next) (unowed (asked_node t.next.node).own) e) none
 
   -- none is there
   pub none-there :
       (t : Step EquipmentView Happening) (number : ℕ)
       → next_number (most_transmitted t.next.node.own.tables) t.next.node.own.ledger ≡ Some number
       → slice_get t.next.file.list 0 ≡ None
-      → unload_part (oldest_of t.next) t.next.node.own t.next.node.core
-      ≡ taking None (asked_node t.next.node).own t.next.node.core
-  none-there t number some none =
-      ap (λ (n : Option ℕ). taking_turn n (oldest_of t.next) (asked_node t.next.node).own t.next.node.core) some
+      → (e : EndView Kind) → unload_part (oldest_of t.next) (unowed t.next.node.own) e
+      ≡ taking None (unowed (asked_node t.next.node).own) e
+  none-there t number some none e =
+      ap (λ (n : Option ℕ). taking_turn n (oldest_of t.next) (unowed (asked_node t.next.node).own) e) some
       ∙ ap (λ (m : Option Message).
-      taking_turn (Some number) (option_map spooled_of m) (asked_node t.next.node).own t.next.node.core) none
+      taking_turn (Some number) (option_map spooled_of m) (unowed (asked_node t.next.node).own) e) none
 
   pub one-there :
       (t : Step EquipmentView Happening) (number : ℕ) (m : Message) (report : Spooled)
       → next_number (most_transmitted t.next.node.own.tables) t.next.node.own.ledger ≡ Some number
       → slice_get t.next.file.list 0 ≡ Some m → report ≡ spooled_of m
-      → unload_part (oldest_of t.next) t.next.node.own t.next.node.core
-      ≡ taking (Some (number, report)) (asked_node t.next.node).own t.next.node.core
-  one-there t number m report some is same =
-      ap (λ (n : Option ℕ). taking_turn n (oldest_of t.next) (asked_node t.next.node).own t.next.node.core) some
+      → (e : EndView Kind) → unload_part (oldest_of t.next) (unowed t.next.node.own) e
+      ≡ taking (Some (number, report)) (unowed (asked_node t.next.node).own) e
+  one-there t number m report some is same e =
+      ap (λ (n : Option ℕ). taking_turn n (oldest_of t.next) (unowed (asked_node t.next.node).own) e) some
       ∙ ap (λ (x : Option Message).
-      taking_turn (Some number) (option_map spooled_of x) (asked_node t.next.node).own t.next.node.core) is
-      ∙ ap (λ (x : Spooled). taking_turn (Some number) (Some x) (asked_node t.next.node).own t.next.node.core) (sym same)
+      taking_turn (Some number) (option_map spooled_of x) (unowed (asked_node t.next.node).own) e) is
+      ∙ ap (λ (x : Spooled). taking_turn (Some number) (Some x) (unowed (asked_node t.next.node).own) e) (sym same)
 
   -- a message was read: it is the first one of the list, and can go
   module _ (t : Step EquipmentView Happening) (number : ℕ) (v w : SpoolView D) (kept : Kept) (report : Spooled)
@@ -220,12 +285,12 @@ module _ {D : Type 0} (members : disk.Ghosts D) where
           (clear.stands.file told.0 told.1).stands first
 
       pub read-there :
-          unload_part (oldest_of t.next) t.next.node.own t.next.node.core
-          ≡ taking (Some (number, report)) (asked_node t.next.node).own t.next.node.core
-      read-there =
+          (e : EndView Kind) → unload_part (oldest_of t.next) (unowed t.next.node.own) e
+          ≡ taking (Some (number, report)) (unowed (asked_node t.next.node).own) e
+      read-there e =
           one-there t number (message_in v.first kept) report some
           (ap (λ (file : SpoolFile). slice_get file.list 0) (clear.stands.file told.0 told.1).stands.is ∙ first)
-          (is good.stream good.odd good.short)
+          (is good.stream good.odd good.short) e
 
   -- the list is empty
   pub no-list : (t : Step EquipmentView Happening) (v : SpoolView D) → IsClear members v t.next → v.len ≡ 0

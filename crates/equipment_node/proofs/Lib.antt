@@ -20,6 +20,7 @@ pub mod ReadSizes
 pub mod Readying
 pub mod Seated
 pub mod Sizing
+pub mod SetupFound
 pub mod SpentMoves
 pub mod Standings
 pub mod StartCalled

@@ -10,6 +10,8 @@ use Rattle.disk_base.specs.declared.disk.Disk as disk
 use Rattle.disk_base.proofs.Moments.{only_now}
 use Rattle.gem_spool.specs.declared.spool.GemSpool.{GemSpool}
 use Rattle.gem_spool.specs.Standing.{file_told, standing_of}
+use Rattle.setup_store.specs.Copies.{HoldsList}
+use Rattle.setup_store.specs.OnDisk.{HoldsKept}
 use Rattle.spool_file.specs.File.{SpoolFile, StandsFor, file_in}
 use Rattle.spool_file.specs.Logs.{written_by}
 use Rattle.spool_file.specs.Slot.{width}
@@ -39,7 +41,7 @@ use Rattle.equipment_node.proofs.HandingBack.{failed-then, kept-still, kept-then
 use Rattle.equipment_node.proofs.ReadSizes.{looks-front, looks-then}
 use Rattle.equipment_node.proofs.Standings.{used-sure}
 
-same-story : (a b : Story) → Some a ≡ Some b → a ≡ b
+pub same-story : (a b : Story) → Some a ≡ Some b → a ≡ b
 same-story a b same = cc
 
 -- some first calls of these are some of those with more behind them
@@ -75,7 +77,7 @@ module _ {D : Type 0} (members : disk.Ghosts D) (v : SpoolView D)
       abbrev file : SpoolFile
       file = file_in s.now.bytes
 
-      same-images : (t : Story) → members.told v.disk ≡ Some t → EachImage (λ image. StandsFor image file) t.now
+      pub same-images : (t : Story) → members.told v.disk ≡ Some t → EachImage (λ image. StandsFor image file) t.now
       same-images t again image image_is =
           subst (λ (bytes : List ℕ). StandsFor bytes file)
           (ap (λ (x : Story). x.now.bytes) (same-story s t (sym told ∙ again))
@@ -294,6 +296,15 @@ module _ {D : Type 0} (members : disk.Ghosts D) (v : SpoolView D)
               ∙ ap (λ (f : SpoolFile). map width f.list) (sym now.2)
               ∙ sized.are was.0 was.1
 
+          -- what is held of the setup is so still
+          holds-then : HoldsKept members v → HoldsKept members g.spool
+          holds-then holds t there =
+              let was = was-told t there in
+              let now = told-then was.0 was.1 in
+              subst (λ (f : SpoolFile). HoldsList f)
+              (now.2 ∙ sym (ap (λ (x : Story). file_in x.now.bytes) (same-story t now.0 (sym there ∙ now.1))))
+              (holds was.0 was.1)
+
           file-then : IsFresh members v → (standing_of members g.spool).file ≡ upgraded (standing_of members v).file
           file-then fresh =
               let now = told-then fresh.told.0 fresh.told.1 in
@@ -337,6 +348,7 @@ module _ {D : Type 0} (members : disk.Ghosts D) (v : SpoolView D)
                   ∙ sym (ap (λ (k : Known). k.next) in-known);
               are = widths-then;
             };
+            holds = holds-then;
             fresh = λ fresh.
                 let now = told-then fresh.told.0 fresh.told.1 in
                 record {

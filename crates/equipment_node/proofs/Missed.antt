@@ -1,38 +1,33 @@
 -- That a step whose disk goes on where a call fails misses it: those before it were made, with what is noted by then.
-use Rattle.std.proofs.Common.{◌≡◌, refl, sym, ap, subst, ◌∙◌, ◌⊎◌, inl, inr, arith, zero, suc, ◌+◌, ℕ, List, [], ◌∷◌}
-use Rattle.std.proofs.Common.{◌++◌, append_assoc, length, length-append, map, take, Some}
+use Rattle.std.proofs.Common.{◌≡◌, refl, sym, ap, subst, ◌∙◌, ◌⊎◌, inl, inr, arith, suc, ◌+◌, ℕ, List, [], ◌∷◌}
+use Rattle.std.proofs.Common.{◌++◌, append_assoc, drop, length, length-append, map, take, Some}
 use Rattle.std.proofs.lemmas.List.{map-append}
-use Rattle.std.specs.Prelude.{Err, slice_get}
+use Rattle.std.specs.Prelude.{slice_get}
 use Rattle.disk_base.specs.Calls.{DiskCall}
 use Rattle.disk_base.specs.Faults.{IsLeftOut}
 use Rattle.disk_base.specs.Story.{Story}
 use Rattle.disk_base.specs.declared.disk.Disk as disk
 use Rattle.disk_base.proofs.Stretches.{left_out_behind}
-use Rattle.gem_spool.proofs.Amid.{does_amid}
-use Rattle.gem_spool.proofs.Called.{does_makes, fails_makes}
-use Rattle.gem_spool.proofs.Doing.{does_stands}
-use Rattle.gem_spool.specs.declared.spool.GemSpool.{GemSpool}
-use Rattle.gem_spool.specs.declared.works.Work.{Work}
-use Rattle.gem_spool.specs.Standing.{Standing, Stands}
-use Rattle.gem_spool.specs.Works.{AreSized, Does, DoesAll, standing_after}
+use Rattle.gem_spool.specs.Standing.{Standing}
 use Rattle.message_flow.specs.declared.step.Note.{Note}
 use Rattle.spool_file.specs.Logs.{written_by}
 use Rattle.spool_file.proofs.Making.{written_both}
-use Rattle.spool_slots.specs.declared.states.Spent.{Spent as Device}
 use Rattle.trace_log.specs.Log.{Happening}
 use Rattle.message_end.specs.Ends.{Loss, printed}
 use Rattle.spool_works.specs.DiskCalls.{HasFailedIn, HasMade, all_disk_calls, disk_calls, failing, with_calls}
-use Rattle.spool_works.specs.DiskWorks.{DiskWork, behind_change, standing_behind, up_to_change}
-use Rattle.spool_works.specs.DiskWorks.DiskWork.{Change, ReadOldest, Reserve}
+use Rattle.spool_works.specs.DiskWorks.{DiskWork, front_at, fronts_of, lines_behind, lines_up_to, standing_behind}
+use Rattle.spool_works.specs.DiskWorks.{standings_behind}
 use Rattle.spool_works.specs.WorkLosses.{lost_calls}
-use Rattle.spool_works.proofs.Called.{failed-all, made-all, with-both}
+use Rattle.spool_works.proofs.Called.{with-both}
+use Rattle.spool_works.proofs.EachFront.{all_behind, all_up_to}
 use Rattle.spool_works.proofs.LossCounts.{IsBeside, beside-call, lost-sizes}
-use Rattle.tool_step.proofs.LossCalls.{map-sizes}
+use Rattle.tool_step.proofs.LossCalls.{losses-both, map-sizes}
 use Rattle.tool_step.specs.Equipment.{EquipmentView}
 use Rattle.tool_step.specs.Losses.{loss_at, losses_of}
 use Rattle.equipment_node.specs.Breaking.{HasMissedAt, Passes, bytes_of, sizes_of}
-use Rattle.equipment_node.specs.Cut.{noted_to}
+use Rattle.equipment_node.proofs.BreakPlaces.{parted, taken}
 use Rattle.equipment_node.proofs.Broken.{both-sized}
+use Rattle.equipment_node.proofs.BrokenSteps.{same-some}
 
 module _ {D : Type 0} (members : disk.Ghosts D) where
   -- the calls of a work are those of its losses
@@ -51,23 +46,12 @@ module _ {D : Type 0} (members : disk.Ghosts D) where
   works-sized : (s : EquipmentView) (works : List DiskWork) (st : Standing) (before notes : List Happening)
       → bytes_of (all_disk_calls st works) ≡ sizes_of (losses_of s st before works notes)
   works-sized s [] st before notes = refl
-  works-sized s (Reserve ∷ works) st before notes =
-      both-sized (disk_calls st Reserve) (all_disk_calls (standing_behind st Reserve) works)
-      (map (loss_at s before) (lost_calls st Reserve)) (losses_of s (standing_behind st Reserve) before works notes)
-      (work-sized s st Reserve before) (works-sized s works (standing_behind st Reserve) before notes)
-  works-sized s (Change one ∷ works) st before notes =
-      let front = before ++ up_to_change notes in
-      both-sized (disk_calls st (Change one)) (all_disk_calls (standing_behind st (Change one)) works)
-      (map (loss_at s front) (lost_calls st (Change one)))
-      (losses_of s (standing_behind st (Change one)) front works (behind_change notes))
-      (work-sized s st (Change one) front)
-      (works-sized s works (standing_behind st (Change one)) front (behind_change notes))
-  works-sized s (ReadOldest slots ∷ works) st before notes =
-      both-sized (disk_calls st (ReadOldest slots)) (all_disk_calls (standing_behind st (ReadOldest slots)) works)
-      (map (loss_at s (before ++ notes)) (lost_calls st (ReadOldest slots)))
-      (losses_of s (standing_behind st (ReadOldest slots)) before works notes)
-      (work-sized s st (ReadOldest slots) (before ++ notes))
-      (works-sized s works (standing_behind st (ReadOldest slots)) before notes)
+  works-sized s (one ∷ works) st before notes =
+      both-sized (disk_calls st one) (all_disk_calls (standing_behind st one) works)
+      (map (loss_at s (front_at one before notes)) (lost_calls st one))
+      (losses_of s (standing_behind st one) (lines_up_to one before notes) works (lines_behind one notes))
+      (work-sized s st one (front_at one before notes))
+      (works-sized s works (standing_behind st one) (lines_up_to one before notes) (lines_behind one notes))
 
   pub passes-works :
       (s : EquipmentView) (old new : D) (works : List DiskWork) (st : Standing) (before notes : List Happening)
@@ -177,39 +161,63 @@ module _ {D : Type 0} (members : disk.Ghosts D) where
                 (sym (append_assoc passed.made is.made (failing last ∷ []))),
           )
 
-  -- in one of some changes, whatever comes behind them
-  pub missed-change :
-      (s : EquipmentView) (g : GemSpool D) (works : List Work) (more : List DiskWork) (at : ℕ) (one : Work)
-      (undone : GemSpool D) (spent : Device D) (st : Standing) (before notes : List Happening) (said : List Note)
-      → Stands members g.spool st → (t : Story) → members.told g.spool.disk ≡ Some t
-      → AreSized st.next st.file.list works → slice_get works at ≡ Some one
-      → DoesAll members g (take at works) undone → Does members undone one (Err spent)
-      → said ≡ printed (before ++ noted_to at notes)
-      → HasMissedAt members g.spool.disk spent.disk (losses_of s st before (map Change works ++ more) notes) said
-  missed-change s g [] more at one undone spent st before notes said stands t told sized is done fails noted =
-      absurd (cc)
-  missed-change s g (x ∷ works) more zero one undone spent st before notes said stands t told sized is done fails
-      noted =
-      let front = before ++ up_to_change notes in
-      missed-before g.spool.disk spent.disk (map (loss_at s front) (lost_calls st (Change x)))
-      (losses_of s (standing_after st x) front (map Change works ++ more) (behind_change notes)) said
-      (missed-work s st (Change x) front g.spool.disk spent.disk said noted
-      (failed-all members g.spool.disk spent.disk (disk_calls st (Change x))
-      (fails_makes members g x spent st stands t told
-      (subst (λ (w : Work). Does members g w (Err spent)) (sym (same is))
-      (subst (λ (y : GemSpool D). Does members y one (Err spent)) done fails)))))
+  -- in one of some works, whatever comes behind them
+  front-there :
+      (xs rest : List DiskWork) (one : DiskWork) (before notes : List Happening)
+      → slice_get (fronts_of before (xs ++ one ∷ rest) notes) (length xs)
+      ≡ Some (front_at one (all_up_to xs before notes) (all_behind xs notes))
+  front-there [] rest one before notes = refl
+  front-there (x ∷ xs) rest one before notes =
+      front-there xs rest one (lines_up_to x before notes) (lines_behind x notes)
+
+  missed-then :
+      (s : EquipmentView) (xs rest : List DiskWork) (one : DiskWork) (a b c : D) (st : Standing)
+      (before notes : List Happening) (said : List Note) → HasMade members a b (all_disk_calls st xs)
+      → HasFailedIn members b c (disk_calls (standings_behind st xs) one)
+      → said ≡ printed (front_at one (all_up_to xs before notes) (all_behind xs notes))
+      → HasMissedAt members a c (losses_of s st before (xs ++ one ∷ rest) notes) said
+  missed-then s xs rest one a b c st before notes said made fails noted =
+      let up = all_up_to xs before notes in
+      let behind = all_behind xs notes in
+      let there = standings_behind st xs in
+      let here = map (loss_at s (front_at one up behind)) (lost_calls there one) in
+      let later =
+      losses_of s (standing_behind there one) (lines_up_to one up behind) rest (lines_behind one behind) in
+      subst (λ (all : List (Loss EquipmentView)). HasMissedAt members a c all said)
+      (sym (losses-both s xs (one ∷ rest) st before notes))
+      (missed-behind a b c (losses_of s st before xs notes) (here ++ later) said
+      (passes-works s a b xs st before notes made)
+      (missed-before b c here later said (missed-work s there one (front_at one up behind) b c said noted fails)))
+
+  pub missed-at :
+      (s : EquipmentView) (works more : List DiskWork) (at : ℕ) (one : DiskWork) (a b c : D) (st : Standing)
+      (before notes front : List Happening) (said : List Note) → slice_get works at ≡ Some one
+      → HasMade members a b (all_disk_calls st (take at works))
+      → HasFailedIn members b c (disk_calls (standings_behind st (take at works)) one)
+      → slice_get (fronts_of before (works ++ more) notes) at ≡ Some front → said ≡ printed front
+      → HasMissedAt members a c (losses_of s st before (works ++ more) notes) said
+  missed-at s works more at one a b c st before notes front said place made fails is noted =
+      subst (λ (ws : List DiskWork). HasMissedAt members a c (losses_of s st before ws notes) said) (sym whole)
+      (missed-then s xs rest one a b c st before notes said made fails (noted ∙ ap printed same))
     where
-      same : Some x ≡ Some one → x ≡ one
-      same is = cc
-  missed-change s g (x ∷ works) more (suc at) one undone spent st before notes said stands t told sized is
-      (u, first, rest) fails noted =
-      let front = before ++ up_to_change notes in
-      let mid = does_amid members g u x st stands first t told in
-      missed-behind g.spool.disk u.spool.disk spent.disk (map (loss_at s front) (lost_calls st (Change x)))
-      (losses_of s (standing_after st x) front (map Change works ++ more) (behind_change notes)) said
-      (passes-work s g.spool.disk u.spool.disk (Change x) st front
-      (made-all members g.spool.disk u.spool.disk (disk_calls st (Change x))
-      (does_makes members g u x st stands t told first)))
-      (missed-change s u works more at one undone spent (standing_after st x) front (behind_change notes) said
-      (does_stands members g u x st stands sized.0 first) mid.0 mid.1 sized.1 is rest fails
-      (noted ∙ ap printed (sym (append_assoc before (up_to_change notes) (noted_to at (behind_change notes))))))
+      xs : List DiskWork
+      xs = take at works
+
+      rest : List DiskWork
+      rest = drop (suc at) works ++ more
+
+      whole : works ++ more ≡ xs ++ one ∷ rest
+      whole =
+          ap (λ (ws : List DiskWork). ws ++ more) (parted works at one place)
+          ∙ append_assoc xs (one ∷ drop (suc at) works) more
+
+      here : List Happening
+      here = front_at one (all_up_to xs before notes) (all_behind xs notes)
+
+      same : front ≡ here
+      same =
+          same-some front here
+          (sym is
+          ∙ ap (λ (ws : List DiskWork). slice_get (fronts_of before ws notes) at) whole
+          ∙ ap (λ (n : ℕ). slice_get (fronts_of before (xs ++ one ∷ rest) notes) n) (sym (taken works at one place))
+          ∙ front-there xs rest one before notes)

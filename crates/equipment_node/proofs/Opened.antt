@@ -1,6 +1,6 @@
 -- That system bytes are reserved as a step begins.
 use Rattle.std.proofs.Common.{◌≡◌, refl, sym, ap, subst, ◌∙◌, arith, ◌+◌, ◌-◌, ◌^◌, ◌≤◌, nat_le, nat_lt, ◌&&◌, not, ◌∷◌}
-use Rattle.std.proofs.Common.{Bool, true, false, ℕ, List, [], Option, Some, None, if◌then◌else◌}
+use Rattle.std.proofs.Common.{Bool, true, false, is_some, ℕ, List, [], Option, Some, None, if◌then◌else◌}
 use Rattle.std.proofs.lemmas.Bool.Decides.{nat_tests}
 use Rattle.disk_base.specs.Story.{Story}
 use Rattle.disk_base.specs.Through.{EachImage, GoesThrough}
@@ -64,10 +64,14 @@ module _ {D : Type 0} (members : disk.Ghosts D) (s : EquipmentView) where
       ∙ ap (λ (b : Bool).
       if needs then if b then Spent (at_first s) else Goes (at_first (reserved s)) else Goes (at_first s)) marks
 
+  -- a setup is kept where the file has an area
+  abbrev HasArea : EquipmentView → Type 0
+  HasArea x = is_some x.node.own.setup ≡ is_some x.file.setup.bytes
+
   pub opened-plain :
       (node : Node OwnView Kind) (g : GemSpool D) → node ≡ s.node → needs_numbers s ≡ false
-      → IsClear members g.spool s → IsTold (members.told g.spool.disk) → HasOpened members s node g
-  opened-plain node g node_is few clear told =
+      → IsClear members g.spool s → IsTold (members.told g.spool.disk) → HasArea s → HasOpened members s node g
+  opened-plain node g node_is few clear told area =
       let same = needs-by false few in
       record {
         went =
@@ -75,6 +79,8 @@ module _ {D : Type 0} (members : disk.Ghosts D) (s : EquipmentView) where
             ∙ ap (λ (x : EquipmentView). Goes (at_first x)) (sym same);
         node_is = node_is ∙ ap (λ (x : EquipmentView). x.node) (sym same);
         clear = subst (λ (x : EquipmentView). IsClear members g.spool x) (sym same) clear;
+        area =
+            subst (λ (x : EquipmentView). is_some s.node.own.setup ≡ is_some x.file.setup.bytes) (sym same) area;
         told = told;
       }
 
@@ -86,11 +92,12 @@ module _ {D : Type 0} (members : disk.Ghosts D) (s : EquipmentView) where
   pub opened-more :
       (node : Node OwnView Kind) (g h : GemSpool D) (base : ℕ)
       → node ≡ with_core (core_after (Command.More 4096) s.node.core) s.node → needs_numbers s ≡ true
-      → IsClear members g.spool s → IsTold (members.told g.spool.disk) → ReservesFrom members g h (Some base)
+      → IsClear members g.spool s → IsTold (members.told g.spool.disk) → HasArea s
+      → ReservesFrom members g h (Some base)
       → Stands members h.spool (marked (standing_in s))
       → ((t : Story) → members.told g.spool.disk ≡ Some t → GoesThrough t (members.told h.spool.disk) (IsMarked (standing_in s)))
       → HasOpened members s node h
-  opened-more node g h base node_is needs clear told done stands moments =
+  opened-more node g h base node_is needs clear told area done stands moments =
       let same = needs-by true needs in
       let through = moments told.0 told.1 in
       record {
@@ -107,6 +114,8 @@ module _ {D : Type 0} (members : disk.Ghosts D) (s : EquipmentView) where
               slots_are = clear.slots_are;
               version_is = clear.version_is;
             });
+        area =
+            subst (λ (x : EquipmentView). is_some s.node.own.setup ≡ is_some x.file.setup.bytes) (sym same) area;
         told = (through.0, through.1);
       }
 

@@ -21,7 +21,8 @@ use Rattle.spool_works.specs.DiskCalls.{failing, with_calls}
 use Rattle.tool_step.specs.Equipment.{EquipmentView}
 use Rattle.equipment_node.specs.Breaking.{HasMissedAt, Passes, bytes_of, sizes_of}
 use Rattle.equipment_node.specs.InMemory.{IsCrowded, disk_reach}
-use Rattle.equipment_node.proofs.BreakPlaces.{parted, same-some}
+use Rattle.equipment_node.proofs.BreakPlaces.{parted}
+use Rattle.equipment_node.proofs.BrokenSteps.{same-some}
 use Rattle.equipment_node.proofs.Broken.{sized-many}
 
 -- ---- what calls write

@@ -32,7 +32,7 @@ use Rattle.tool_law.proofs.LawfulLosses.{equipment_lawful}
 use Rattle.tool_core.specs.Node.{node_of}
 use Rattle.tool_step.specs.Own.{OwnView}
 use Rattle.tool_law.specs.Sound.{AllCanBeSent}
-use Rattle.equipment_node.specs.StartOver.{HasStartedOver, StartsOver}
+use Rattle.equipment_node.specs.StartOver.{HasStartedOver, StartsFrom}
 use Rattle.tool_step.specs.Step.{end_plan}
 use Rattle.equipment_node.specs.Stepping.{HasStepped, IsClear, IsMade, IsOn, IsTold, Steps, stop_by, view_of}
 
@@ -137,18 +137,18 @@ start-spent plan file out marked empty =
 module _ {D : Type 0} (members : disk.Ghosts D) (plan : EquipmentPlan) (out : StepOut) where
   -- nothing is noted where it doesn't start, over a spool in hand
   pub started-ends :
-      {E : Type 0} (file : SpoolFile) (means : E → EquipmentView) (why : Starting D)
-      → StartsOver members plan file out (Err why) → (told : Stop) → told ≡ stop_at_start why
+      {E : Type 0} (old : D) (file : SpoolFile) (means : E → EquipmentView) (why : Starting D)
+      → StartsFrom members plan old file out (Err why) → (told : Stop) → told ≡ stop_at_start why
       → Starts {E = E} ([] ∷ []) (starts plan file) means out (Err told)
-  started-ends {E} file means why is told told_is =
+  started-ends {E} old file means why is told told_is =
       subst (λ (e : Stop). Starts {E = E} ([] ∷ []) (starts plan file) means out (Err e)) (sym told_is) (go why is)
     where
-      go : (why : Starting D) → StartsOver members plan file out (Err why)
+      go : (why : Starting D) → StartsFrom members plan old file out (Err why)
           → Starts {E = E} ([] ∷ []) (starts plan file) means out (Err (stop_at_start why))
       go (starting.NoMemory spent) is = is.0
-      go (starting.NotSpool raw break) is = absurd is
+      go (starting.NotSpool raw break) is = is.0.line
       go (starting.DiskFailed spent) is = is.0.line
-      go (starting.NumbersSpent spent) is = start-spent plan file out is.1 is.0
+      go (starting.NumbersSpent spent) is = start-spent plan file out is.1.1 is.1.0
 
   -- nor over a device that tells its bytes
   pub begun-ends :

@@ -1,12 +1,13 @@
 -- That the spool in hand has messages of the sizes that its ledger says, and so finds each message by its size.
 use Rattle.std.proofs.Common.{◌≡◌, refl, sym, ap, subst, ◌∙◌, arith, ◌<◌, ◌≤◌, ◌-◌, ℕ, List, [], ◌∷◌, length, map}
-use Rattle.std.proofs.Common.{Option, Some, None, is_some}
+use Rattle.std.proofs.Common.{Option, Some, None, Ok, inl, inr, is_some}
 use Rattle.std.proofs.lemmas.List.Elements.{All-append, All-cons, All-drop, All-head, All-nil, All-tail}
 use Rattle.std.proofs.lemmas.List.Sums.{sum_by-cons}
 use Rattle.std.specs.Prelude.{All, sum}
 use Rattle.std.specs.List.{slice_get}
 use Rattle.disk_base.specs.Story.{Story}
 use Rattle.disk_base.specs.declared.disk.Disk as disk
+use Rattle.disk_base.proofs.Told.{told_already}
 use Rattle.gem_spool.specs.Spool.{HasList}
 use Rattle.gem_spool.specs.Standing.{Standing, Stands, count_of}
 use Rattle.gem_spool.specs.Works.{AreSized, AreSizedOn, HasCarried, counts_after, list_after, lists_after, next_after}
@@ -15,6 +16,7 @@ use Rattle.gem_spool.specs.declared.spool.GemSpool.{GemSpool}
 use Rattle.gem_spool.specs.declared.works.Work.{Work}
 use Rattle.gem_spool.specs.declared.works.Work.TheVariants as work
 use Rattle.gem_spool.proofs.Doing.{same_file}
+use Rattle.setup_store.specs.OnDisk.{Keeps}
 use Rattle.spool_file.specs.File.{SpoolFile, file_in}
 use Rattle.spool_file.specs.Sizes.{slots_for}
 use Rattle.spool_file.specs.Slot.{Message, width}
@@ -25,9 +27,10 @@ use Rattle.spool_ledger.specs.Ledger.{IsSome, LedgerView, Numbered, carried_out,
 use Rattle.spool_ledger.specs.Sizes.{AreSizedBy, all_sizes_after, oldest_of, sizes_after}
 use Rattle.spool_ledger.proofs.Widths.{sized-by, widths-after}
 use Rattle.spool_works.specs.HandedBack.{IsKept}
+use Rattle.spool_works.specs.Owed.{CarriesOwed}
 use Rattle.equipment_node.specs.Amid.{HasSizes, IsCounted, WorksFit}
 use Rattle.equipment_node.specs.Stepping.{IsTold}
-use Rattle.equipment_node.proofs.HandingBack.{carried-back}
+use Rattle.spool_works.proofs.HandingBack.{carried-back}
 
 -- ---- sizes behind works
 
@@ -153,6 +156,29 @@ module _ {D : Type 0} (members : disk.Ghosts D) where
         is.sizes;
     some = subst (λ (sizes : List ℕ). All IsSome sizes) fit.leave (some-after ledger.stood.sizes ledger.works is.some);
   }
+
+  -- and behind a keep
+  kept-counted : (u h : GemSpool D) (bytes : List ℕ) (ledger : LedgerView) → IsCounted members u.spool ledger
+      → Keeps members u.spool bytes (Ok h.spool) → IsCounted members h.spool ledger
+  kept-counted u h bytes ledger is keeps = record {
+    count = ap (λ (x : SpoolView D). count_of x) keeps.3 ∙ is.count;
+    sizes = λ t there.
+        let told = told_already (members.told u.spool.disk) (members.told h.spool.disk) t keeps.2.same_disk.2 there in
+        ap (λ (f : SpoolFile). map width f.list) (sym (keeps.4 told.0 t told.1 there).stands.is)
+        ∙ is.sizes told.0 told.1;
+    some = is.some;
+  }
+
+  pub owed-counted : (g h : GemSpool D) (ledger : LedgerView) (setup : Option (List ℕ)) → IsCounted members g.spool ledger
+      → WorksFit ledger → CarriesOwed members g ledger.works setup (Ok h) → IsCounted members h.spool (carried_out ledger)
+  owed-counted g h ledger None is fit (u, carried, same) =
+      subst (λ (x : GemSpool D). IsCounted members x.spool (carried_out ledger)) (sym same)
+      (counted-behind g u ledger is fit carried)
+  owed-counted g h ledger (Some bytes) is fit (u, carried, inl kept) =
+      kept-counted u h bytes (carried_out ledger) (counted-behind g u ledger is fit carried) kept.0
+  owed-counted g h ledger (Some bytes) is fit (u, carried, inr none) =
+      subst (λ (x : GemSpool D). IsCounted members x.spool (carried_out ledger)) (sym none.1)
+      (counted-behind g u ledger is fit carried)
 
   -- ---- the oldest message
 

@@ -1,6 +1,6 @@
 -- How the spool stands behind some works of a step, and that no call of a sure disk fails.
 use Rattle.std.proofs.Common.{◌≡◌, refl, sym, ap, subst, ◌∙◌, arith, ◌-◌, Bool, true, false, ℕ, List, [], ◌∷◌, map}
-use Rattle.std.proofs.Common.{Some, if◌then◌else◌}
+use Rattle.std.proofs.Common.{Option, Some, if◌then◌else◌}
 use Rattle.std.specs.Prelude.{IfOk, Result, Ok, Err}
 use Rattle.disk_base.specs.Faults.{DiskHealth, IsUsed}
 use Rattle.disk_base.specs.declared.disk.Disk as disk
@@ -16,6 +16,7 @@ use Rattle.gem_spool.specs.Works.{reserved as marked, standing_after, standings_
 use Rattle.message_end.specs.Core.{at_first}
 use Rattle.message_end.specs.Core.Went.{Goes}
 use Rattle.equipment_node.specs.Amid.{opened}
+use Rattle.setup_store.specs.Entries.{Entry}
 use Rattle.spool_works.specs.DiskWorks.{DiskWork, standings_behind}
 use Rattle.tool_step.specs.Disk.{reserve_works, standing_in}
 use Rattle.spool_works.specs.DiskWorks.DiskWork.{Change, Reserve}
@@ -37,13 +38,13 @@ used-sure a b calls bytes used is = record {
 -- and so by a start
 pub start-sure :
     {D : Type 0} (members : disk.Ghosts D) (g h : GemSpool D) (base : ℕ) → ReservesFrom members g h (Some base)
-    → (plan : EquipmentPlan) (sizes : List ℕ) (other : ℕ) (out_old out_new : StepOut)
-    (result : Result (Held D) (Starting D)) → StartsWith plan h sizes other out_old out_new result
+    → (plan : EquipmentPlan) (setup : Option (List Entry)) (sizes : List ℕ) (other : ℕ) (out_old out_new : StepOut)
+    (result : Result (Held D) (Starting D)) → StartsWith plan h setup sizes other out_old out_new result
     → IfOk result (λ (e : Held D). KeepsSure members g.spool.disk e.spool.spool.disk)
-start-sure {D} members g h base reserves plan sizes other out_old out_new (Ok e) starts =
+start-sure {D} members g h base reserves plan setup sizes other out_old out_new (Ok e) starts =
     subst (λ (k : GemSpool D). KeepsSure members g.spool.disk k.spool.disk) (sym starts.0)
     (used-sure (members.health g.spool.disk) (members.health h.spool.disk) 5 9 reserves.0.0.1.0.cause)
-start-sure members g h base reserves plan sizes other out_old out_new (Err end) starts = tt
+start-sure members g h base reserves plan setup sizes other out_old out_new (Err end) starts = tt
 
 pub changes-stand :
     (st : Standing) (works : List Work) → standings_behind st (map Change works) ≡ standings_after st works

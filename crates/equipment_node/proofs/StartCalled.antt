@@ -15,6 +15,7 @@ use Rattle.gem_spool.specs.declared.spool.GemSpool.{GemSpool}
 use Rattle.gem_spool.specs.Spool.{ReservesFrom}
 use Rattle.gem_spool.specs.Standing.{Standing, Stands, standing_of}
 use Rattle.message_flow.specs.declared.step.StepOut.{StepOut}
+use Rattle.setup_store.specs.Entries.{Entry}
 use Rattle.spool_file.specs.File.{SpoolFile, file_in, spool_break}
 use Rattle.spool_file.specs.Reads.{HasRead, most_reads, recover_calls}
 use Rattle.spool_slots.specs.Changes.{Recovers, Reserves}
@@ -29,8 +30,10 @@ use Rattle.equipment_node.specs.declared.equipment.Starting.TheVariants as start
 use Rattle.spool_works.specs.DiskCalls.{HasFailedIn, HasMade}
 use Rattle.equipment_node.specs.Held.{Held, starting_by}
 use Rattle.equipment_node.specs.MadeReady.{HasBegun, IsMadeReady, IsUnready, ready_calls}
-use Rattle.equipment_node.specs.StartCalls.{AreLooks, CallsInStart, StartMoves, reserve_calls, taking_calls}
+use Rattle.equipment_node.specs.StartCalls.{AreLooks, CallsInStart, StartAsks, StartMoves, reserve_calls}
+use Rattle.equipment_node.specs.StartCalls.{taking_calls}
 use Rattle.equipment_node.specs.StartOver.{IsFresh, StartsWith}
+use Rattle.equipment_node.specs.StartSetup.{setup_looks}
 use Rattle.spool_works.proofs.Called.{failed-all, failed-before, failed-behind, made-all, made-same, made-then}
 use Rattle.spool_works.proofs.Called.{mark-made, mark-stops, with-both}
 use Rattle.equipment_node.specs.Stepping.{IsTold}
@@ -56,14 +59,14 @@ module _ {D : Type 0} (members : disk.Ghosts D) where
       (told : IsTold (members.told g.spool.disk))
     where
       pub mark-moved :
-          (plan : EquipmentPlan) (h : GemSpool D) (sizes : List ℕ) (base first : ℕ) (out_old out_new : StepOut)
-          (result : Result (Held D) (Starting D)) → ReservesFrom members g h (Some base)
-          → StartsWith plan h sizes first out_old out_new result
+          (plan : EquipmentPlan) (h : GemSpool D) (setup : Option (List Entry)) (sizes : List ℕ) (base first : ℕ)
+          (out_old out_new : StepOut) (result : Result (Held D) (Starting D)) → ReservesFrom members g h (Some base)
+          → StartsWith plan h setup sizes first out_old out_new result
           → StartMoves members g.spool.disk [] (reserve_calls st.file) result
-      mark-moved plan h sizes base first out_old out_new (Ok e) done is =
+      mark-moved plan h setup sizes base first out_old out_new (Ok e) done is =
           subst (λ (x : GemSpool D). HasMade members g.spool.disk x.spool.disk (reserve_calls st.file)) (sym is.0)
           (mark-made members g.spool h.spool.disk st stands told.0 told.1 done.0.0)
-      mark-moved plan h sizes base first out_old out_new (Err (starting.NoMemory spent)) done is = record {
+      mark-moved plan h setup sizes base first out_old out_new (Err (starting.NoMemory spent)) done is = record {
         first = reserve_calls st.file;
         rest = [];
         are = sym (append-nil (reserve_calls st.file));
@@ -71,9 +74,9 @@ module _ {D : Type 0} (members : disk.Ghosts D) where
             subst (λ (d : D). HasMade members g.spool.disk d (reserve_calls st.file)) (sym is)
             (mark-made members g.spool h.spool.disk st stands told.0 told.1 done.0.0);
       }
-      mark-moved plan h sizes base first out_old out_new (Err (starting.NumbersSpent spent)) done is = absurd is
-      mark-moved plan h sizes base first out_old out_new (Err (starting.DiskFailed spent)) done is = absurd is
-      mark-moved plan h sizes base first out_old out_new (Err (starting.NotSpool raw break)) done is = absurd is
+      mark-moved plan h setup sizes base first out_old out_new (Err (starting.NumbersSpent spent)) done is = absurd is
+      mark-moved plan h setup sizes base first out_old out_new (Err (starting.DiskFailed spent)) done is = absurd is
+      mark-moved plan h setup sizes base first out_old out_new (Err (starting.NotSpool raw break)) done is = absurd is
 
       pub mark-stays :
           (h : GemSpool D) (spent : Device D) → ReservesFrom members g h None → spent.disk ≡ h.spool.disk
@@ -163,13 +166,20 @@ module _ {D : Type 0} (members : disk.Ghosts D) where
     pub looked-only :
         (why : Recovering D) → Recovers members old (Err why)
         → CallsInStart members old s.now.bytes (Err (starting_by why))
-    looked-only (recovering.NotSpool raw break) is =
-        looks-of is.0.synced (members.health raw.disk) (members.calls old) (members.calls raw.disk) _ _ is.0.reads
+    looked-only (recovering.NotSpool raw break) is = (
+      λ sound. absurd (both-not (is.1 s told).0 sound),
+      λ breaks.
+          looks-of is.0.synced (members.health raw.disk) (members.calls old) (members.calls raw.disk) _ _ is.0.reads,
+    )
+      where
+        both-not : {place : Option ℕ} {at : ℕ} → place ≡ Some at → place ≡ None → ⊥
+        both-not some none = cc
     looked-only (recovering.Failed spent) is = (
       λ sound.
           subst (λ (calls : List DiskCall). HasFailedIn members old spent.disk calls)
-          (sym (append_assoc finds (ready_calls here) (reserve_calls here)))
-          (failed-before members old spent.disk finds (ready_calls here ++ reserve_calls here)
+          (sym (append_assoc finds (setup_looks here ++ ready_calls here) (reserve_calls here)))
+          (failed-before members old spent.disk finds
+          ((setup_looks here ++ ready_calls here) ++ reserve_calls here)
           (failed-all members old spent.disk finds (is.1 s told sound))),
       λ breaks. looks-or-sync spent is,
     )
@@ -181,22 +191,29 @@ module _ {D : Type 0} (members : disk.Ghosts D) where
       looked : HasMade members old v.disk finds
       looked = made-all members old v.disk finds (is.2 s told sound)
 
+      moved-through :
+          (result : Result (Held D) (Starting D))
+          → StartMoves members v.disk (setup_looks here ++ ready_calls here) (reserve_calls here) result
+          → StartMoves members old (taking_calls here) (reserve_calls here) result
+      moved-through result moves =
+          moves-behind old v.disk finds (setup_looks here ++ ready_calls here) (reserve_calls here) looked result moves
+
       pub looked-through :
           (result : Result (Held D) (Starting D))
-          → StartMoves members v.disk (ready_calls (standing_of members v).file)
-          (reserve_calls (standing_of members v).file) result
+          → StartAsks members v.disk (standing_of members v).file result
           → CallsInStart members old s.now.bytes result
-      looked-through result moves =
+      looked-through result asks =
           go result
-          (moves-behind old v.disk finds (ready_calls here) (reserve_calls here) looked result
-          (subst (λ (file : SpoolFile). StartMoves members v.disk (ready_calls file) (reserve_calls file) result)
-          (file-is members old s told v is) moves))
+          (subst (λ (file : SpoolFile). StartAsks members v.disk file result) (file-is members old s told v is) asks)
         where
-          go : (result : Result (Held D) (Starting D))
-              → StartMoves members old (taking_calls here) (reserve_calls here) result
+          go : (result : Result (Held D) (Starting D)) → StartAsks members v.disk here result
               → CallsInStart members old s.now.bytes result
-          go (Ok h) made = made
-          go (Err (starting.NoMemory spent)) made = made
-          go (Err (starting.NumbersSpent spent)) made = made
-          go (Err (starting.DiskFailed spent)) failed = ((λ whole. failed), (λ breaks. absurd (breaks sound)))
-          go (Err (starting.NotSpool raw break)) made = absurd made
+          go (Ok h) made = moved-through (Ok h) made
+          go (Err (starting.NoMemory spent)) made = moved-through (Err (starting.NoMemory spent)) made
+          go (Err (starting.NumbersSpent spent)) made = moved-through (Err (starting.NumbersSpent spent)) made
+          go (Err (starting.DiskFailed spent)) failed =
+              ((λ whole. moved-through (Err (starting.DiskFailed spent)) failed), (λ breaks. absurd (breaks sound)))
+          go (Err (starting.NotSpool raw break)) made = (
+            λ whole. made-then members old v.disk raw.disk finds (setup_looks here) looked made,
+            λ breaks. absurd (breaks sound),
+          )

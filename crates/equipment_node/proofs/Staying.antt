@@ -17,10 +17,12 @@ use Rattle.spool_ledger.specs.Ledger.{LedgerView, quiet}
 use Rattle.spool_ledger.specs.Unloading.{after_next, next_number as spool_next_number, taken_up, trying, unload_next, with_unload}
 use Rattle.spool_ledger.specs.declared.unload.Unload.{Unload}
 use Rattle.tool_step.specs.declared.kind.Kind.{Kind}
-use Rattle.tool_step.specs.Own.{OwnView, ToolPart, ToolTurn, is_communicating, with_ledger, with_tried}
+use Rattle.tool_step.specs.Own.{OwnView, ToolPart, ToolTurn, is_communicating, unowed, with_ledger, with_tried}
+use Rattle.tool_step.specs.declared.owed.Owed.{Owed}
+use Rattle.tool_step.specs.declared.owed.Owed.TheVariants.{Keep}
 use Rattle.tool_step.specs.Sent.{grant_item, text_of}
 use Rattle.tool_step.specs.Spooling.{dataid_in, end_of_spooling, inquiry_turn, needs_grant, sent_turn, taking_turn, tried_turn, unload_part, unloaded_own, unloading_turn, waiting_text, stopped_turn}
-use Rattle.tool_step.specs.Step.{last_parts}
+use Rattle.tool_step.specs.Step.{answering, last_parts, owed_turn}
 
 -- ---- what comes behind them
 
@@ -134,11 +136,21 @@ parts-rest (part ∷ parts) all step =
         rested-then step.next.own.ledger turn.own.ledger _ first (more (with_own turn.own next))
     go (Spent next) more = first
 
+answering-rests : (own : OwnView) (e : EndView Kind) → HasRested own.ledger (answering own e).own.ledger
+answering-rests own e = go own.owed
+  where
+    go : (owed : Option Owed) → HasRested own.ledger (owed_turn owed (unowed own)).own.ledger
+    go None = same-rests own.ledger
+    go (Some (Keep primary)) = same-rests own.ledger
+
 pub last-rested :
     (oldest : Option Spooled) (now : ℕ) (step : Step (Node OwnView Kind) Happening)
     → HasRested step.next.own.ledger (step_in (after_parts Some (last_parts oldest now) step)).next.own.ledger
 last-rested oldest now step =
     parts-rest (last_parts oldest now) (
-      unload-part-rests oldest,
-      (ending-rests, ((λ own e. same-rests own.ledger), ((λ own e. same-rests own.ledger), tt))),
+      answering-rests,
+      (
+        unload-part-rests oldest,
+        (ending-rests, ((λ own e. same-rests own.ledger), ((λ own e. same-rests own.ledger), tt))),
+      ),
     ) step

@@ -1,7 +1,7 @@
 -- That a step over a disk that stops breaks at the planned call.
-use Rattle.std.proofs.Common.{◌≡◌, refl, sym, ap, subst, ◌∙◌, suc, ◌+◌, ◌&&◌, not, Bool, true, false, ℕ, List, [], ◌∷◌}
-use Rattle.std.proofs.Common.{◌++◌, append-nil, drop, length, map, take, Option, Some, None, is_some}
-use Rattle.std.specs.Prelude.{Result, Ok, Err, slice_get}
+use Rattle.std.proofs.Common.{◌≡◌, refl, sym, ap, subst, ◌∙◌, ◌&&◌, not, Bool, true, false, ℕ, List, [], ◌∷◌}
+use Rattle.std.proofs.Common.{◌++◌, append-nil, map, Option, Some, None, is_some}
+use Rattle.std.specs.Prelude.{Result, Ok, Err}
 use Rattle.disk_base.specs.declared.disk.Disk as disk
 use Rattle.disk_base.specs.declared.disk.DiskAnswer.TheVariants.{Done, Failed}
 use Rattle.gem_spool.specs.declared.spool.GemSpool.{GemSpool}
@@ -10,8 +10,7 @@ use Rattle.gem_spool.specs.declared.count.Count.{Count}
 use Rattle.gem_spool.specs.Oldest.{HasReadSlots, oldest_looks}
 use Rattle.gem_spool.specs.Spool.{ReservesFrom}
 use Rattle.gem_spool.specs.Standing.{Standing, Stands}
-use Rattle.gem_spool.specs.Works.{AreSized, HasCarried, standings_after}
-use Rattle.gem_spool.proofs.Doing.{sized_front}
+use Rattle.gem_spool.specs.Works.{AreSized}
 use Rattle.message_flow.specs.declared.step.Note.{Note}
 use Rattle.message_flow.specs.declared.step.StepOut.{StepOut}
 use Rattle.spool_slots.specs.Changes.{Reserves}
@@ -36,30 +35,33 @@ use Rattle.equipment_node.specs.Amid.{opened}
 use Rattle.equipment_node.specs.Breaking.{BreaksAt, BreaksBy, Passes}
 use Rattle.spool_works.specs.Breaking.{IsGoingDisk}
 use Rattle.equipment_node.specs.Cut.{cut_at, noted_to}
-use Rattle.spool_works.specs.DiskWorks.{DiskWork, fronts_of, standings_behind}
+use Rattle.spool_works.specs.DiskWorks.{DiskWork, standings_behind}
 use Rattle.tool_step.specs.Disk.{read_works, reserve_works, standing_in, works_behind}
 use Rattle.spool_works.specs.DiskWorks.DiskWork.{Change, ReadOldest, Reserve}
 use Rattle.spool_works.specs.DiskCalls.{HasFailedIn, disk_calls, disk_in}
 use Rattle.spool_works.specs.WorkLosses.{lost_calls}
 use Rattle.tool_step.specs.Equipment.{EquipmentView, begun_step, is_marked_out, needs_numbers, reserving as opening}
-use Rattle.tool_step.specs.Equipment.{settled, settled_step}
+use Rattle.tool_step.specs.Equipment.{kept_step, kept_view, settled, settled_step}
+use Rattle.tool_step.specs.Setup.{to_keep}
 use Rattle.tool_step.specs.Losses.{loss_at, losses, losses_of}
 use Rattle.tool_step.specs.Own.{OwnView, ToolPart}
 use Rattle.equipment_node.specs.Stepping.{IsClear, IsTold}
 use Rattle.equipment_node.proofs.Standings.{opened-behind}
 use Rattle.equipment_node.proofs.Broken.{breaks-before, breaks-behind, broken-before, passed-by, passes-both}
-use Rattle.equipment_node.proofs.Missed.{missed-before, missed-behind, missed-change, missed-work, passes-works}
-use Rattle.spool_works.proofs.BrokenList.{works-break, works_left}
-use Rattle.spool_works.proofs.Called.{all-made, look-stops, made-same, mark-stops}
-use Rattle.equipment_node.proofs.BrokenSteps.{loss-of}
+use Rattle.equipment_node.proofs.Missed.{missed-at, missed-before, missed-behind, missed-work, passes-works}
+use Rattle.spool_works.proofs.Called.{look-stops, made-same, mark-stops}
+use Rattle.spool_works.proofs.OwedLosses.{owed-left}
+use Rattle.spool_works.proofs.OwedWorks.{owed-fails, owed-made}
+use Rattle.spool_works.specs.Owed.{CarriesOwed, owed_works}
+use Rattle.equipment_node.proofs.BrokenSteps.{loss-of, same-some}
 use Rattle.spool_works.proofs.BrokenWorks.{read-left, reserve-left}
-use Rattle.equipment_node.proofs.Cutting.{change-front, cut-noted}
+use Rattle.equipment_node.proofs.Cutting.{cut-noted, owed-front}
 use Rattle.equipment_node.proofs.Opened.{mark-failed}
-use Rattle.equipment_node.proofs.OverDisk.{done-standing, takes-settled}
+use Rattle.equipment_node.proofs.OverDisk.{done-standing, keeps-by, takes-settled}
 use Rattle.equipment_node.proofs.Sizing.{sized-standing}
 use Rattle.equipment_node.proofs.StepCalls.{below, first-is, looked-all, none-left, none-needed, none-owed}
 use Rattle.equipment_node.proofs.StepCalls.{reserve-made}
-use Rattle.equipment_node.proofs.BreakPlaces.{broken-of, read_by, losses-read, losses-reserve, parted, taken, same-some}
+use Rattle.equipment_node.proofs.BreakPlaces.{broken-of, read_by, losses-read, losses-reserve}
 
 -- ---- over a disk
 
@@ -131,13 +133,14 @@ module _ {D : Type 0} (members : disk.Ghosts D) where
 
   -- they were all done
   pub carried-passes :
-      (s : EquipmentView) (g h : GemSpool D) (works : List Work) (st : Standing) (notes : List Happening)
-      → Stands members g.spool st → IsTold (members.told g.spool.disk) → AreSized st.next st.file.list works
-      → HasCarried members g works h
-      → Passes members g.spool.disk (losses_of s st [] (map Change works) notes) h.spool.disk
-  carried-passes s g h works st notes stands told sized carried =
-      passes-works members s g.spool.disk h.spool.disk (map Change works) st [] notes
-      (all-made members g works h st stands told.0 told.1 sized carried.done)
+      (s : EquipmentView) (g h : GemSpool D) (works : List Work) (setup : Option (List ℕ)) (st : Standing)
+      (notes : List Happening) → Stands members g.spool st → IsTold (members.told g.spool.disk)
+      → AreSized st.next st.file.list works → (is_some setup ≡ true → is_some st.file.setup.bytes ≡ true)
+      → CarriesOwed members g works setup (Ok h)
+      → Passes members g.spool.disk (losses_of s st [] (owed_works works setup) notes) h.spool.disk
+  carried-passes s g h works setup st notes stands told sized area carried =
+      passes-works members s g.spool.disk h.spool.disk (owed_works works setup) st [] notes
+      (owed-made members g works st stands sized told.0 told.1 setup area h carried)
 
   -- the oldest message was read
   looked-passes :
@@ -211,35 +214,26 @@ module _ {D : Type 0} (members : disk.Ghosts D) where
 
   -- in one of the works, whatever comes behind them
   cut-breaks :
-      (s : EquipmentView) (g : GemSpool D) (works : List Work) (more : List DiskWork) (st : Standing)
-      (front : List Happening) (out after : StepOut) (spent : Device D) → Stands members g.spool st
+      (s : EquipmentView) (g : GemSpool D) (works : List Work) (setup : Option (List ℕ)) (more : List DiskWork)
+      (st : Standing) (front : List Happening) (out after : StepOut) (spent : Device D) → Stands members g.spool st
       → IsTold (members.told g.spool.disk) → AreSized st.next st.file.list works → out.notes ≡ printed front
-      → HasCut members g works out after spent → IsGoingDisk (members.health g.spool.disk)
-      → BreaksAt members g.spool.disk (losses_of s st [] (map Change works ++ more) front) spent.disk after.notes
-  cut-breaks s g works more st front out after spent stands told sized noted cut goes =
+      → HasCut members g works setup out after spent → IsGoingDisk (members.health g.spool.disk)
+      → BreaksAt members g.spool.disk (losses_of s st [] (owed_works works setup ++ more) front) spent.disk after.notes
+  cut-breaks s g works setup more st front out after spent stands told sized noted cut goes =
       λ t new images stopped.
-      let one = cut.undone.failed in
-      let xs = take cut.at works in
-      let rest = drop (suc cut.at) works in
-      let all = parted works cut.at one cut.undone.is in
       let place =
-      works-break members spent t new images stopped xs g cut.undone.before one st told.0
-      (record { stands = stands; told = told.1; goes = goes })
-      (sized_front st.next st.file.list xs (one ∷ rest)
-      (subst (λ (ys : List Work). AreSized st.next st.file.list ys) all sized)) cut.undone.done cut.undone.fails in
-      let loss = loss-of s xs rest one more st [] front place.call place.left place.is in
-      let at = taken works cut.at one cut.undone.is in
+      owed-left members g works st told.0 (record { stands = stands; told = told.1; goes = goes }) sized
+      (record { at = cut.at; spent = spent }) t new images stopped setup cut.undone in
+      let loss =
+      loss-of s (owed_works works setup) more cut.at place.one st [] front place.call place.left place.is_one place.is
+      in
       record {
         loss = loss_at s loss.front (loss.bytes, place.left);
         is =
             subst
             (λ (k : ℕ).
-            call_of k (losses_of s st [] (map Change works ++ more) front)
-            ≡ Some (loss_at s loss.front (loss.bytes, place.left))) place.place
-            (subst
-            (λ (ys : List Work).
-            call_of (length (works_left st xs) + place.call) (losses_of s st [] (map Change ys ++ more) front)
-            ≡ Some (loss_at s loss.front (loss.bytes, place.left))) (sym all) loss.is);
+            call_of k (losses_of s st [] (owed_works works setup ++ more) front)
+            ≡ Some (loss_at s loss.front (loss.bytes, place.left))) place.place loss.is;
         left = place.at;
         noted =
             cut.notes
@@ -247,30 +241,29 @@ module _ {D : Type 0} (members : disk.Ghosts D) where
             ∙ sym (cut-noted cut.at front)
             ∙ ap printed
             (same-some (noted_to cut.at front) loss.front
-            (sym (change-front works more [] front cut.at one cut.undone.is)
-            ∙ subst
-            (λ (n : ℕ). slice_get (fronts_of [] (map Change works ++ more) front) n ≡ Some loss.front) at
-            (subst
-            (λ (ys : List Work).
-            slice_get (fronts_of [] (map Change ys ++ more) front) (length xs) ≡ Some loss.front) (sym all)
-            loss.noted)));
+            (sym (owed-front works setup more [] front cut.at place.one place.is_one) ∙ loss.noted));
       }
 
   carry-breaks :
-      (s : EquipmentView) (g : GemSpool D) (works : List Work) (more : List DiskWork) (st : Standing)
-      (front : List Happening) (out after : StepOut) (end : Ended D) → Stands members g.spool st
+      (s : EquipmentView) (g : GemSpool D) (works : List Work) (setup : Option (List ℕ)) (more : List DiskWork)
+      (st : Standing) (front : List Happening) (out after : StepOut) (end : Ended D) → Stands members g.spool st
       → IsTold (members.told g.spool.disk) → AreSized st.next st.file.list works → out.notes ≡ printed front
-      → Carries members g works out after (Err end)
-      → BreaksBy members disk_in g.spool.disk (losses_of s st [] (map Change works ++ more) front) after.notes
+      → Carries members g works setup out after (Err end)
+      → BreaksBy members disk_in g.spool.disk (losses_of s st [] (owed_works works setup ++ more) front) after.notes
       (Err end)
-  carry-breaks s g works more st front out after (ended.DiskFailed spent) stands told sized noted cut = (
-    cut-breaks s g works more st front out after spent stands told sized noted cut,
-    missed-change members s g works more cut.at cut.undone.failed cut.undone.before spent st [] front
-        after.notes stands told.0 told.1 sized cut.undone.is cut.undone.done cut.undone.fails
-        (cut.notes ∙ ap (cut_at cut.at) noted ∙ sym (cut-noted cut.at front)),
-  )
-  carry-breaks s g works more st front out after (ended.NumbersSpent spent) stands told sized noted cut = absurd cut
-  carry-breaks s g works more st front out after (ended.NoMemory spent) stands told sized noted cut = absurd cut
+  carry-breaks s g works setup more st front out after (ended.DiskFailed spent) stands told sized noted cut =
+      let at =
+      owed-fails members g works st stands sized told.0 told.1 setup (record { at = cut.at; spent = spent }) cut.undone
+      in (
+        cut-breaks s g works setup more st front out after spent stands told sized noted cut,
+        missed-at members s (owed_works works setup) more cut.at at.one g.spool.disk at.mid spent.disk st [] front
+            (noted_to cut.at front) after.notes at.is at.made at.fails
+            (owed-front works setup more [] front cut.at at.one at.is)
+            (cut.notes ∙ ap (cut_at cut.at) noted ∙ sym (cut-noted cut.at front)),
+      )
+  carry-breaks s g works setup more st front out after (ended.NumbersSpent spent) stands told sized noted cut =
+      absurd cut
+  carry-breaks s g works setup more st front out after (ended.NoMemory spent) stands told sized noted cut = absurd cut
 
   -- ---- a step
 
@@ -288,6 +281,17 @@ module _ {D : Type 0} (members : disk.Ghosts D) where
         ++ losses_of s (standings_behind (standing_in s) (reserve_works s)) [] behind noted
     losses-parted =
         losses-reserve s (needs_numbers s && not (is_marked_out s.file.mark.value)) behind (standing_in s) noted
+
+    -- all that it owes, and what it reads behind
+    all-owed :
+        (step : Step EquipmentView Happening)
+        → works_behind (Goes step)
+        ≡ owed_works step.next.node.own.ledger.works (to_keep step.next.node.own) ++ read_works (Goes step)
+    all-owed step =
+        ap
+        (λ (keep : List DiskWork).
+        map Change step.next.node.own.ledger.works ++ keep ++ read_works (Goes step))
+        (keeps-by members s input now (to_keep step.next.node.own))
 
     -- all of it
     pub step-breaks :
@@ -347,22 +351,27 @@ module _ {D : Type 0} (members : disk.Ghosts D) where
             (went : opening s ≡ Goes (at_first (opened s))) (h : GemSpool D) (node : Node OwnView Kind) (out : StepOut)
             (begun : IsBegun s input now node out) (notes : List Note) (result : Result (GemSpool D) (Ended D))
             → IsCounted members g.spool node.own.ledger → WorksFit node.own.ledger
-            → HasCarried members g node.own.ledger.works h
+            → (is_some (to_keep node.own) ≡ true → is_some (opened s).file.setup.bytes ≡ true)
+            → CarriesOwed members g node.own.ledger.works (to_keep node.own) (Ok h)
             → BreaksBy members disk_in h.spool.disk
-            (losses_of s (standing_in (settled begun.step.next)) [] (read_works (Goes (settled_step begun.step)))
-            begun.step.notes) notes result
+            (losses_of s (standing_in (kept_view (settled begun.step.next))) []
+            (read_works (Goes (kept_step (settled_step begun.step)))) begun.step.notes) notes result
             → BreaksBy members disk_in g.spool.disk (behind_losses (begun_step s input now)) notes result
-        behind-breaks went h node out begun notes result counted fit carried last =
+        behind-breaks went h node out begun notes result counted fit area carried last =
             subst
             (λ (w : Went EquipmentView Happening). BreaksBy members disk_in g.spool.disk (behind_losses w) notes result)
             (sym begun.is)
             (subst
+            (λ (works : List DiskWork).
+            BreaksBy members disk_in g.spool.disk (losses_of s stood [] works begun.step.notes) notes result)
+            (sym (all-owed begun.step))
+            (subst
             (λ (all : List (Loss EquipmentView)). BreaksBy members disk_in g.spool.disk all notes result)
-            (sym (losses-read s works oldest reads stood [] begun.step.notes))
-            (breaks-then g.spool.disk h.spool.disk (losses_of s stood [] (map Change works) begun.step.notes)
-            (losses_of s (standings_after stood works) [] (read_by oldest reads) begun.step.notes) notes result
-            (carried-passes s g h works stood begun.step.notes clear.stands told
-            (sized begun.step.next.node.own.ledger counted-is fit-is) carried-is)
+            (sym (losses-read s owed oldest reads stood [] begun.step.notes))
+            (breaks-then g.spool.disk h.spool.disk (losses_of s stood [] owed begun.step.notes)
+            (losses_of s (standings_behind stood owed) [] (read_by oldest reads) begun.step.notes) notes result
+            (carried-passes s g h works setup stood begun.step.notes clear.stands told
+            (sized begun.step.next.node.own.ledger counted-is fit-is) area-is carried-is)
             (subst
             (λ (x : Standing).
             BreaksBy members disk_in h.spool.disk (losses_of s x [] (read_by oldest reads) begun.step.notes) notes
@@ -371,14 +380,21 @@ module _ {D : Type 0} (members : disk.Ghosts D) where
             (subst
             (λ (b : Bool).
             BreaksBy members disk_in h.spool.disk
-            (losses_of s (standing_in (settled begun.step.next)) [] (read_by oldest b) begun.step.notes) notes result)
-            (takes-settled members s input now begun.step.next) last))))
+            (losses_of s (standing_in (kept_view (settled begun.step.next))) [] (read_by oldest b) begun.step.notes)
+            notes result)
+            (takes-settled members s input now begun.step.next) last)))))
           where
             ledger-is : node.own.ledger ≡ begun.step.next.node.own.ledger
             ledger-is = ap (λ (n : Node OwnView Kind). n.own.ledger) (sym begun.node_is)
 
             works : List Work
             works = begun.step.next.node.own.ledger.works
+
+            setup : Option (List ℕ)
+            setup = to_keep begun.step.next.node.own
+
+            owed : List DiskWork
+            owed = owed_works works setup
 
             oldest : ℕ
             oldest = oldest_of begun.step.next.node.own.ledger.sizes
@@ -387,8 +403,16 @@ module _ {D : Type 0} (members : disk.Ghosts D) where
             reads =
                 is_some (next_number (most_transmitted begun.step.next.node.own.tables) begun.step.next.node.own.ledger)
 
-            carried-is : HasCarried members g works h
-            carried-is = subst (λ (l : LedgerView). HasCarried members g l.works h) ledger-is carried
+            area-is : is_some setup ≡ true → is_some stood.file.setup.bytes ≡ true
+            area-is =
+                subst
+                (λ (n : Node OwnView Kind).
+                is_some (to_keep n.own) ≡ true → is_some (opened s).file.setup.bytes ≡ true) (sym begun.node_is) area
+
+            carried-is : CarriesOwed members g works setup (Ok h)
+            carried-is =
+                subst (λ (n : Node OwnView Kind). CarriesOwed members g n.own.ledger.works (to_keep n.own) (Ok h))
+                (sym begun.node_is) carried
 
             counted-is : IsCounted members g.spool begun.step.next.node.own.ledger
             counted-is = subst (λ (l : LedgerView). IsCounted members g.spool l) ledger-is counted
@@ -396,29 +420,30 @@ module _ {D : Type 0} (members : disk.Ghosts D) where
             fit-is : WorksFit begun.step.next.node.own.ledger
             fit-is = subst WorksFit ledger-is fit
 
-            standing : standings_after stood works ≡ standing_in (settled begun.step.next)
+            standing : standings_behind stood owed ≡ standing_in (kept_view (settled begun.step.next))
             standing =
-                done-standing members s input now went (Goes begun.step) begun.is g h clear told counted-is fit-is
-                begun.file
+                done-standing members s input now went (Goes begun.step) begun.is setup
+                (keeps-by members s input now setup) g h clear told counted-is fit-is begun.file
 
         -- a number was wanting, and the works were done
         pub spent-breaks :
             (h : GemSpool D) (node : Node OwnView Kind) (out : StepOut) (begun : IsBegunSpent s input now node out)
             (notes : List Note) (spent : Device D) → IsCounted members g.spool node.own.ledger
-            → WorksFit node.own.ledger → HasCarried members g node.own.ledger.works h → spent.disk ≡ h.spool.disk
+            → WorksFit node.own.ledger → CarriesOwed members g node.own.ledger.works None (Ok h)
+            → spent.disk ≡ h.spool.disk
             → BreaksBy members disk_in g.spool.disk (behind_losses (begun_step s input now)) notes
             (Err (ended.NumbersSpent spent))
         spent-breaks h node out begun notes spent counted fit carried same =
             subst (λ (w : Went EquipmentView Happening). Passes members g.spool.disk (behind_losses w) spent.disk)
             (sym begun.is)
             (subst (λ (all : List (Loss EquipmentView)). Passes members g.spool.disk all spent.disk)
-            (sym (losses-read s works 0 false stood [] begun.step.notes))
+            (sym (losses-read s (owed_works works None) 0 false stood [] begun.step.notes))
             (passes-both members g.spool.disk h.spool.disk spent.disk
-            (losses_of s stood [] (map Change works) begun.step.notes) []
-            (carried-passes s g h works stood begun.step.notes clear.stands told
+            (losses_of s stood [] (owed_works works None) begun.step.notes) []
+            (carried-passes s g h works None stood begun.step.notes clear.stands told
             (subst (λ (l : LedgerView). AreSized stood.next stood.file.list l.works) (sym begun.ledger)
-            (sized node.own.ledger counted fit))
-            (subst (λ (l : LedgerView). HasCarried members g l.works h) (sym begun.ledger) carried))
+            (sized node.own.ledger counted fit)) (λ some. absurd (cc))
+            (subst (λ (l : LedgerView). CarriesOwed members g l.works None (Ok h)) (sym begun.ledger) carried))
             (passes-none h.spool.disk spent.disk same)))
           where
             works : List Work
@@ -428,37 +453,42 @@ module _ {D : Type 0} (members : disk.Ghosts D) where
         pub behind-broken :
             (node : Node OwnView Kind) (out after : StepOut) (begun : IsBegun s input now node out) (end : Ended D)
             → IsCounted members g.spool node.own.ledger → WorksFit node.own.ledger
-            → Carries members g node.own.ledger.works out after (Err end)
+            → Carries members g node.own.ledger.works (to_keep node.own) out after (Err end)
             → BreaksBy members disk_in g.spool.disk (behind_losses (begun_step s input now)) after.notes (Err end)
         behind-broken node out after begun end counted fit cut =
             subst
             (λ (w : Went EquipmentView Happening).
             BreaksBy members disk_in g.spool.disk (behind_losses w) after.notes (Err end))
             (sym begun.is)
-            (carry-breaks s g begun.step.next.node.own.ledger.works (read_works (Goes begun.step)) stood
-            begun.step.notes out after end clear.stands told
+            (subst
+            (λ (works : List DiskWork).
+            BreaksBy members disk_in g.spool.disk (losses_of s stood [] works begun.step.notes) after.notes (Err end))
+            (sym (all-owed begun.step))
+            (carry-breaks s g begun.step.next.node.own.ledger.works (to_keep begun.step.next.node.own)
+            (read_works (Goes begun.step)) stood begun.step.notes out after end clear.stands told
             (subst (λ (n : Node OwnView Kind). AreSized stood.next stood.file.list n.own.ledger.works)
             (sym begun.node_is) (sized node.own.ledger counted fit))
             begun.notes
-            (subst (λ (n : Node OwnView Kind). Carries members g n.own.ledger.works out after (Err end))
-            (sym begun.node_is) cut))
+            (subst
+            (λ (n : Node OwnView Kind). Carries members g n.own.ledger.works (to_keep n.own) out after (Err end))
+            (sym begun.node_is) cut)))
 
         pub spent-broken :
             (node : Node OwnView Kind) (out after : StepOut) (begun : IsBegunSpent s input now node out) (end : Ended D)
             → IsCounted members g.spool node.own.ledger → WorksFit node.own.ledger
-            → Carries members g node.own.ledger.works out after (Err end)
+            → Carries members g node.own.ledger.works None out after (Err end)
             → BreaksBy members disk_in g.spool.disk (behind_losses (begun_step s input now)) after.notes (Err end)
         spent-broken node out after begun end counted fit cut =
             subst
             (λ (w : Went EquipmentView Happening).
             BreaksBy members disk_in g.spool.disk (behind_losses w) after.notes (Err end))
             (sym begun.is)
-            (carry-breaks s g begun.step.next.node.own.ledger.works [] stood begun.step.notes out after end
+            (carry-breaks s g begun.step.next.node.own.ledger.works None [] stood begun.step.notes out after end
             clear.stands told
             (subst (λ (l : LedgerView). AreSized stood.next stood.file.list l.works) (sym begun.ledger)
             (sized node.own.ledger counted fit))
             begun.notes
-            (subst (λ (l : LedgerView). Carries members g l.works out after (Err end)) (sym begun.ledger) cut))
+            (subst (λ (l : LedgerView). Carries members g l.works None out after (Err end)) (sym begun.ledger) cut))
 
   -- ---- the next message is asked for, or none
 

@@ -13,7 +13,7 @@ use Rattle.gem_spool.specs.declared.works.Work.{Work}
 use Rattle.gem_spool.specs.Oldest.{HasReadSlots, HasReadSome, oldest_looks}
 use Rattle.gem_spool.specs.Spool.{ReservesFrom}
 use Rattle.gem_spool.specs.Standing.{Standing, Stands, count_in}
-use Rattle.gem_spool.specs.Works.{AreSized, HasCarried, oldest_in, standings_after}
+use Rattle.gem_spool.specs.Works.{AreSized, oldest_in}
 use Rattle.message_flow.specs.declared.step.StepOut.{StepOut}
 use Rattle.spool_file.proofs.Runs.{chain_up}
 use Rattle.spool_slots.specs.Changes.{Reserves}
@@ -36,39 +36,27 @@ use Rattle.spool_works.specs.declared.ended.Ended.{Ended}
 use Rattle.spool_works.specs.declared.ended.Ended.TheVariants as ended
 use Rattle.tool_step.specs.declared.kind.Kind.{Kind}
 use Rattle.equipment_node.specs.Amid.{Carries, DoesLast, IsBegun, IsBegunSpent, IsCounted, Opens, WorksFit, opened}
-use Rattle.spool_works.specs.DiskWorks.{DiskWork, standing_behind, standings_behind}
+use Rattle.spool_works.specs.DiskWorks.{DiskWork, standings_behind}
 use Rattle.tool_step.specs.Disk.{read_works, reserve_works, standing_in, works_behind, works_of}
-use Rattle.spool_works.specs.DiskWorks.DiskWork.{Change, ReadOldest, Reserve}
+use Rattle.spool_works.specs.DiskWorks.DiskWork.{Change, Keep, ReadOldest, Reserve}
 use Rattle.spool_works.specs.DiskCalls.{AreFirstReads, HasBegunWorks, HasCalled, HasFailedIn, HasMade}
 use Rattle.spool_works.specs.DiskCalls.{all_disk_calls, disk_calls, disk_in}
 use Rattle.tool_step.specs.Equipment.{EquipmentView, begun_step, is_marked_out, needs_numbers, parts_done}
-use Rattle.tool_step.specs.Equipment.{reserving as opening, settled, settled_step}
+use Rattle.tool_step.specs.Equipment.{kept_step, kept_view, reserving as opening, settled, settled_step}
+use Rattle.tool_step.specs.Setup.{to_keep}
 use Rattle.tool_step.specs.Own.{OwnView, ToolPart}
 use Rattle.tool_step.specs.Step.{first_parts}
 use Rattle.equipment_node.specs.Stepping.{IsClear, IsTold}
-use Rattle.equipment_node.proofs.Standings.{changes-stand, opened-behind}
-use Rattle.spool_works.proofs.Called.{all-failed, all-made, failed-before, failed-behind, look-begun, look-made}
+use Rattle.equipment_node.proofs.Standings.{opened-behind}
+use Rattle.spool_works.proofs.Called.{failed-before, failed-behind, look-begun, look-made}
 use Rattle.spool_works.proofs.Called.{look-stops, made-same, made-then, mark-made, mark-stops}
 use Rattle.equipment_node.proofs.Opened.{mark-failed}
-use Rattle.equipment_node.proofs.OverDisk.{done-standing, takes-settled}
+use Rattle.spool_works.proofs.OwedWorks.{behind-both, both-calls, owed-made, owed-stops}
+use Rattle.spool_works.specs.Owed.{CarriesOwed, owed_works}
+use Rattle.equipment_node.proofs.OverDisk.{done-standing, keeps-by, takes-settled}
 use Rattle.equipment_node.proofs.Sizing.{sized-standing}
 
 -- ---- works behind others
-
-calls-both :
-    (st : Standing) (xs ys : List DiskWork)
-    → all_disk_calls st (xs ++ ys)
-    ≡ all_disk_calls st xs ++ all_disk_calls (standings_behind st xs) ys
-calls-both st [] ys = refl
-calls-both st (x ∷ xs) ys =
-    ap (λ (calls : List DiskCall). disk_calls st x ++ calls) (calls-both (standing_behind st x) xs ys)
-    ∙ sym (append_assoc (disk_calls st x) (all_disk_calls (standing_behind st x) xs)
-    (all_disk_calls (standings_behind (standing_behind st x) xs) ys))
-
-standings-both : (st : Standing) (xs ys : List DiskWork)
-    → standings_behind st (xs ++ ys) ≡ standings_behind (standings_behind st xs) ys
-standings-both st [] ys = refl
-standings-both st (x ∷ xs) ys = standings-both (standing_behind st x) xs ys
 
 module _ {D : Type 0} (members : disk.Ghosts D) where
   module _ (old mid : D) (st : Standing) (xs : List DiskWork)
@@ -78,7 +66,7 @@ module _ {D : Type 0} (members : disk.Ghosts D) where
           (new : D) (ys : List DiskWork) → HasMade members mid new (all_disk_calls (standings_behind st xs) ys)
           → HasMade members old new (all_disk_calls st (xs ++ ys))
       all-behind new ys two =
-          subst (λ (calls : List DiskCall). HasMade members old new calls) (sym (calls-both st xs ys))
+          subst (λ (calls : List DiskCall). HasMade members old new calls) (sym (both-calls st xs ys))
           (made-then members old mid new (all_disk_calls st xs) (all_disk_calls (standings_behind st xs) ys)
           one two)
 
@@ -89,7 +77,7 @@ module _ {D : Type 0} (members : disk.Ghosts D) where
       called-then ys (Ok g) two = all-behind g.spool.disk ys two
       called-then ys (Err (ended.NumbersSpent spent)) two = all-behind spent.disk ys two
       called-then ys (Err (ended.DiskFailed spent)) two =
-          subst (λ (calls : List DiskCall). HasFailedIn members old spent.disk calls) (sym (calls-both st xs ys))
+          subst (λ (calls : List DiskCall). HasFailedIn members old spent.disk calls) (sym (both-calls st xs ys))
           (failed-behind members old mid spent.disk (all_disk_calls st xs)
           (all_disk_calls (standings_behind st xs) ys) one two)
       called-then ys (Err (ended.NoMemory spent)) two = record {
@@ -98,12 +86,12 @@ module _ {D : Type 0} (members : disk.Ghosts D) where
         are = ap (λ (all : List DiskWork). xs ++ all) two.are ∙ sym (append_assoc xs two.first two.rest);
         reads = two.reads;
         are_reads =
-            subst (λ (at : Standing). AreFirstReads at two.rest two.reads) (sym (standings-both st xs two.first))
+            subst (λ (at : Standing). AreFirstReads at two.rest two.reads) (sym (behind-both st xs two.first))
             two.are_reads;
         made =
             subst (λ (calls : List DiskCall). HasMade members old spent.disk calls)
             (sym (append_assoc (all_disk_calls st xs) (all_disk_calls (standings_behind st xs) two.first) two.reads)
-            ∙ ap (λ (calls : List DiskCall). calls ++ two.reads) (sym (calls-both st xs two.first)))
+            ∙ ap (λ (calls : List DiskCall). calls ++ two.reads) (sym (both-calls st xs two.first)))
             (made-then members old mid spent.disk (all_disk_calls st xs)
             (all_disk_calls (standings_behind st xs) two.first ++ two.reads) one two.made);
       }
@@ -113,7 +101,7 @@ module _ {D : Type 0} (members : disk.Ghosts D) where
       → HasFailedIn members old new (all_disk_calls st xs)
       → HasFailedIn members old new (all_disk_calls st (xs ++ ys))
   called-wider old new st xs ys is =
-      subst (λ (calls : List DiskCall). HasFailedIn members old new calls) (sym (calls-both st xs ys))
+      subst (λ (calls : List DiskCall). HasFailedIn members old new calls) (sym (both-calls st xs ys))
       (failed-before members old new (all_disk_calls st xs) (all_disk_calls (standings_behind st xs) ys) is)
 
   none-begun :
@@ -132,6 +120,7 @@ module _ {D : Type 0} (members : disk.Ghosts D) where
       none st [] = refl
       none st (Reserve ∷ works) = refl
       none st (Change one ∷ works) = refl
+      none st (Keep bytes ∷ works) = refl
       none st (ReadOldest slots ∷ works) = (0, omega arith, refl)
 
   -- ---- system bytes
@@ -209,7 +198,7 @@ module _ {D : Type 0} (members : disk.Ghosts D) where
         → works_behind (begun_step s input now) ≡ []
     none-owed spent owes =
         ap (λ (w : Went EquipmentView Happening). works_behind (and_then w (parts_done (first_parts input now)))) spent
-        ∙ ap (λ (works : List Work). map Change works ++ []) (sym (ap (λ (l : LedgerView). l.works) owes))
+        ∙ ap (λ (works : List Work). (map Change works ++ []) ++ []) (sym (ap (λ (l : LedgerView). l.works) owes))
 
     pub not-called :
         (old : D) (node : Node OwnView Kind) (end : Ended D)
@@ -231,16 +220,15 @@ module _ {D : Type 0} (members : disk.Ghosts D) where
 
     -- the disk failed at a work
     carry-stops :
-        (g : GemSpool D) (works : List Work) (rest : List DiskWork) (st : Standing)
+        (g : GemSpool D) (works : List Work) (setup : Option (List ℕ)) (rest : List DiskWork) (st : Standing)
         (out after : StepOut) (end : Ended D) → Stands members g.spool st → IsTold (members.told g.spool.disk)
-        → AreSized st.next st.file.list works → Carries members g works out after (Err end)
-        → HasCalled members disk_in g.spool.disk st (map Change works ++ rest) (Err end)
-    carry-stops g works rest st out after (ended.DiskFailed spent) stands told sized cut =
-        called-wider g.spool.disk spent.disk st (map Change works) rest
-        (all-failed members g works cut.at cut.undone.failed cut.undone.before spent st stands told.0 told.1 sized
-        cut.undone.is cut.undone.done cut.undone.fails)
-    carry-stops g works rest st out after (ended.NumbersSpent spent) stands told sized cut = absurd cut
-    carry-stops g works rest st out after (ended.NoMemory spent) stands told sized cut = absurd cut
+        → AreSized st.next st.file.list works → Carries members g works setup out after (Err end)
+        → HasCalled members disk_in g.spool.disk st (owed_works works setup ++ rest) (Err end)
+    carry-stops g works setup rest st out after (ended.DiskFailed spent) stands told sized cut =
+        called-wider g.spool.disk spent.disk st (owed_works works setup) rest
+        (owed-stops members g works st stands sized told.0 told.1 setup (record { at = cut.at; spent = spent }) cut.undone)
+    carry-stops g works setup rest st out after (ended.NumbersSpent spent) stands told sized cut = absurd cut
+    carry-stops g works setup rest st out after (ended.NoMemory spent) stands told sized cut = absurd cut
 
     module _ (g : GemSpool D) (clear : IsClear members g.spool (opened s)) (told : IsTold (members.told g.spool.disk))
       where
@@ -256,27 +244,32 @@ module _ {D : Type 0} (members : disk.Ghosts D) where
             (went : opening s ≡ Goes (at_first (opened s))) (h : GemSpool D) (node : Node OwnView Kind) (out : StepOut)
             (begun : IsBegun s input now node out) (result : Result (GemSpool D) (Ended D))
             → IsCounted members g.spool node.own.ledger → WorksFit node.own.ledger
-            → HasCarried members g node.own.ledger.works h
-            → HasCalled members disk_in h.spool.disk (standing_in (settled begun.step.next))
-            (read_works (Goes (settled_step begun.step))) result
+            → (is_some (to_keep node.own) ≡ true → is_some (opened s).file.setup.bytes ≡ true)
+            → CarriesOwed members g node.own.ledger.works (to_keep node.own) (Ok h)
+            → HasCalled members disk_in h.spool.disk (standing_in (kept_view (settled begun.step.next)))
+            (read_works (Goes (kept_step (settled_step begun.step)))) result
             → HasCalled members disk_in g.spool.disk stood (works_behind (begun_step s input now)) result
-        behind-called went h node out begun result counted fit carried last =
+        behind-called went h node out begun result counted fit area carried last =
             subst
             (λ (w : Went EquipmentView Happening).
             HasCalled members disk_in g.spool.disk stood (works_behind w) result) (sym begun.is)
-            (called-then g.spool.disk h.spool.disk stood (map Change works)
-            (all-made members g works h stood clear.stands told.0 told.1
-            (sized begun.step.next.node.own.ledger counted-is fit-is) carried-is.done)
+            (subst
+            (λ (keep : List DiskWork).
+            HasCalled members disk_in g.spool.disk stood (map Change works ++ keep ++ read_works (Goes begun.step)) result)
+            (sym (keeps-by members s input now setup))
+            (called-then g.spool.disk h.spool.disk stood (owed_works works setup)
+            (owed-made members g works stood clear.stands
+            (sized begun.step.next.node.own.ledger counted-is fit-is) told.0 told.1 setup area-is h carried-is)
             (read_works (Goes begun.step)) result
             (subst
             (λ (x : Standing).
             HasCalled members disk_in h.spool.disk x (read_works (Goes begun.step)) result)
-            (sym (changes-stand stood works ∙ standing))
+            (sym standing)
             (subst
             (λ (b : Bool).
-            HasCalled members disk_in h.spool.disk (standing_in (settled begun.step.next))
+            HasCalled members disk_in h.spool.disk (standing_in (kept_view (settled begun.step.next)))
             (if b then ReadOldest (oldest_of begun.step.next.node.own.ledger.sizes) ∷ [] else []) result)
-            (takes-settled members s input now begun.step.next) last)))
+            (takes-settled members s input now begun.step.next) last))))
           where
             ledger-is : node.own.ledger ≡ begun.step.next.node.own.ledger
             ledger-is = ap (λ (n : Node OwnView Kind). n.own.ledger) (sym begun.node_is)
@@ -284,8 +277,19 @@ module _ {D : Type 0} (members : disk.Ghosts D) where
             works : List Work
             works = begun.step.next.node.own.ledger.works
 
-            carried-is : HasCarried members g works h
-            carried-is = subst (λ (l : LedgerView). HasCarried members g l.works h) ledger-is carried
+            setup : Option (List ℕ)
+            setup = to_keep begun.step.next.node.own
+
+            area-is : is_some (to_keep begun.step.next.node.own) ≡ true → is_some (opened s).file.setup.bytes ≡ true
+            area-is =
+                subst
+                (λ (n : Node OwnView Kind).
+                is_some (to_keep n.own) ≡ true → is_some (opened s).file.setup.bytes ≡ true) (sym begun.node_is) area
+
+            carried-is : CarriesOwed members g works (to_keep begun.step.next.node.own) (Ok h)
+            carried-is =
+                subst (λ (n : Node OwnView Kind). CarriesOwed members g n.own.ledger.works (to_keep n.own) (Ok h))
+                (sym begun.node_is) carried
 
             counted-is : IsCounted members g.spool begun.step.next.node.own.ledger
             counted-is = subst (λ (l : LedgerView). IsCounted members g.spool l) ledger-is counted
@@ -293,64 +297,73 @@ module _ {D : Type 0} (members : disk.Ghosts D) where
             fit-is : WorksFit begun.step.next.node.own.ledger
             fit-is = subst WorksFit ledger-is fit
 
-            standing : standings_after stood works ≡ standing_in (settled begun.step.next)
+            standing : standings_behind stood (owed_works works setup) ≡ standing_in (kept_view (settled begun.step.next))
             standing =
-                done-standing members s input now went (Goes begun.step) begun.is g h clear told counted-is fit-is
+                done-standing members s input now went (Goes begun.step) begun.is
+                (to_keep begun.step.next.node.own)
+                (keeps-by members s input now (to_keep begun.step.next.node.own)) g h clear told counted-is fit-is
                 begun.file
 
         pub behind-stops :
             (node : Node OwnView Kind) (out after : StepOut) (begun : IsBegun s input now node out) (end : Ended D)
             → IsCounted members g.spool node.own.ledger → WorksFit node.own.ledger
-            → Carries members g node.own.ledger.works out after (Err end)
+            → Carries members g node.own.ledger.works (to_keep node.own) out after (Err end)
             → HasCalled members disk_in g.spool.disk stood (works_behind (begun_step s input now)) (Err end)
         behind-stops node out after begun end counted fit cut =
             subst
             (λ (w : Went EquipmentView Happening).
             HasCalled members disk_in g.spool.disk stood (works_behind w) (Err end)) (sym begun.is)
-            (carry-stops g begun.step.next.node.own.ledger.works (read_works (Goes begun.step)) stood out after end
-            clear.stands told
+            (subst
+            (λ (keep : List DiskWork).
+            HasCalled members disk_in g.spool.disk stood
+            (map Change begun.step.next.node.own.ledger.works ++ keep ++ read_works (Goes begun.step)) (Err end))
+            (sym (keeps-by members s input now (to_keep begun.step.next.node.own)))
+            (carry-stops g begun.step.next.node.own.ledger.works (to_keep begun.step.next.node.own)
+            (read_works (Goes begun.step)) stood out after end clear.stands told
             (subst (λ (n : Node OwnView Kind). AreSized stood.next stood.file.list n.own.ledger.works)
             (sym begun.node_is) (sized node.own.ledger counted fit))
-            (subst (λ (n : Node OwnView Kind). Carries members g n.own.ledger.works out after (Err end))
+            (subst
+            (λ (n : Node OwnView Kind). Carries members g n.own.ledger.works (to_keep n.own) out after (Err end))
             (sym begun.node_is)
-            cut))
+            cut)))
 
         -- a number was wanting
         pub spent-stops :
             (node : Node OwnView Kind) (out after : StepOut) (begun : IsBegunSpent s input now node out) (end : Ended D)
             → IsCounted members g.spool node.own.ledger → WorksFit node.own.ledger
-            → Carries members g node.own.ledger.works out after (Err end)
+            → Carries members g node.own.ledger.works None out after (Err end)
             → HasCalled members disk_in g.spool.disk stood (works_behind (begun_step s input now)) (Err end)
         spent-stops node out after begun end counted fit cut =
             subst
             (λ (w : Went EquipmentView Happening).
             HasCalled members disk_in g.spool.disk stood (works_behind w) (Err end)) (sym begun.is)
-            (carry-stops g begun.step.next.node.own.ledger.works [] stood out after end clear.stands told
+            (carry-stops g begun.step.next.node.own.ledger.works None [] stood out after end clear.stands told
             (subst (λ (l : LedgerView). AreSized stood.next stood.file.list l.works) (sym begun.ledger)
             (sized node.own.ledger counted fit))
-            (subst (λ (l : LedgerView). Carries members g l.works out after (Err end)) (sym begun.ledger) cut))
+            (subst (λ (l : LedgerView). Carries members g l.works None out after (Err end)) (sym begun.ledger) cut))
 
         pub spent-called :
             (h : GemSpool D) (node : Node OwnView Kind) (out : StepOut) (begun : IsBegunSpent s input now node out)
             (spent : Device D) → IsCounted members g.spool node.own.ledger → WorksFit node.own.ledger
-            → HasCarried members g node.own.ledger.works h → spent.disk ≡ h.spool.disk
+            → CarriesOwed members g node.own.ledger.works None (Ok h) → spent.disk ≡ h.spool.disk
             → HasCalled members disk_in g.spool.disk stood (works_behind (begun_step s input now))
             (Err (ended.NumbersSpent spent))
         spent-called h node out begun spent counted fit carried same =
             subst
             (λ (w : Went EquipmentView Happening).
             HasMade members g.spool.disk spent.disk (all_disk_calls stood (works_behind w))) (sym begun.is)
-            (all-behind g.spool.disk h.spool.disk stood (map Change works)
-            (all-made members g works h stood clear.stands told.0 told.1
+            (all-behind g.spool.disk h.spool.disk stood (owed_works works None)
+            (owed-made members g works stood clear.stands
             (subst (λ (l : LedgerView). AreSized stood.next stood.file.list l.works) (sym begun.ledger)
-            (sized node.own.ledger counted fit)) carried-is.done) spent.disk []
+            (sized node.own.ledger counted fit)) told.0 told.1 None (λ some. absurd (cc)) h carried-is) spent.disk []
             (made-same members h.spool.disk spent.disk same))
           where
             works : List Work
             works = begun.step.next.node.own.ledger.works
 
-            carried-is : HasCarried members g works h
-            carried-is = subst (λ (l : LedgerView). HasCarried members g l.works h) (sym begun.ledger) carried
+            carried-is : CarriesOwed members g works None (Ok h)
+            carried-is =
+                subst (λ (l : LedgerView). CarriesOwed members g l.works None (Ok h)) (sym begun.ledger) carried
 
         -- memory was wanting
         pub none-called :

@@ -1,6 +1,6 @@
 -- That a start from a device comes to the start from what the device tells.
-use Rattle.std.proofs.Common.{◌≡◌, sym, ap, subst, ◌∙◌, inl, inr, Option, Some, None}
-use Rattle.std.specs.Option.{option_map}
+use Rattle.std.proofs.Common.{◌≡◌, sym, ap, subst, ◌∙◌, inl, inr, ℕ, List, Option, Some, None}
+use Rattle.std.specs.Option.{option_map, option_or}
 use Rattle.std.specs.Prelude.{IfOk, Result, Ok, Err}
 use Rattle.disk_base.specs.Story.{Story, with_sync}
 use Rattle.disk_base.specs.declared.disk.Disk as disk
@@ -22,7 +22,8 @@ use Rattle.equipment_node.specs.declared.equipment.Starting.TheVariants as start
 use Rattle.spool_works.specs.Found.{first_in}
 use Rattle.equipment_node.specs.Held.{Begins, FindsFile, Held, IsIn, starting_by}
 use Rattle.tool_law.specs.Sound.{AllCanBeSent}
-use Rattle.equipment_node.specs.StartOver.{HasStartedOver, IsFresh, KeepsSure, StartsOver}
+use Rattle.equipment_node.specs.StartOver.{HasStartedOver, IsFresh, KeepsSure, StartsFrom}
+use Rattle.equipment_node.specs.StartSetup.{setup_break, start_break}
 use Rattle.equipment_node.proofs.Standings.{used-sure}
 use Rattle.equipment_node.proofs.FoundBytes.{found-sent}
 use Rattle.equipment_node.proofs.Seated.{start-gone, start-in}
@@ -30,14 +31,12 @@ use Rattle.equipment_node.proofs.Seated.{start-gone, start-in}
 same-story : (a b : Story) → Some a ≡ Some b → a ≡ b
 same-story a b same = cc
 
--- a start that has found a spool file
-pub found : {D : Type 0} (s : Story) (result : Result (Held D) (Starting D)) → spool_break s.now.bytes ≡ None
-    → FindsFile s result
-found s (Ok h) sound = sound
-found s (Err (starting.NoMemory spent)) sound = sound
-found s (Err (starting.NumbersSpent spent)) sound = sound
-found s (Err (starting.NotSpool raw break)) sound = tt
-found s (Err (starting.DiskFailed spent)) sound = tt
+-- no break of either
+none-breaks : (bytes : List ℕ) → spool_break bytes ≡ None → setup_break (file_in bytes) ≡ None
+    → start_break bytes ≡ None
+none-breaks bytes sound none =
+    ap (λ (o : Option ℕ). option_or o (option_map (λ (e : NotSpool). e.at) (setup_break (file_in bytes)))) sound
+    ∙ ap (λ (o : Option NotSpool). option_map (λ (e : NotSpool). e.at) o) none
 
 pub not-found : {D : Type 0} (s : Story) (why : Recovering D) → FindsFile s (Err (starting_by why))
 not-found s (recovering.NotSpool raw break) = tt
@@ -67,7 +66,7 @@ module _ {D : Type 0} (members : disk.Ghosts D) (old : D) (s : Story) (told : me
       → Begins members plan s out (Err (starting.NotSpool raw break))
   no-spool plan out raw break empty is = (
     empty,
-    is.1 s told,
+    inl (is.1 s told),
     λ t now. inr (same-story t (with_sync s) (sym now ∙ is.0.told ∙ ap (option_map with_sync) told)),
   )
 
@@ -117,18 +116,36 @@ module _ {D : Type 0} (members : disk.Ghosts D) (old : D) (s : Story) (told : me
 
     pub begun-over :
         (plan : EquipmentPlan) → EquipmentPlanFits plan → (out : StepOut) (result : Result (Held D) (Starting D))
-        → StartsOver members plan (standing_of members v).file out result → Begins members plan s out result
+        → StartsFrom members plan v.disk (standing_of members v).file out result → Begins members plan s out result
     begun-over plan fits out result over =
-        go result (subst (λ (f : SpoolFile). StartsOver members plan f out result) file-is over)
+        go result (subst (λ (f : SpoolFile). StartsFrom members plan v.disk f out result) file-is over)
       where
-        go : (result : Result (Held D) (Starting D)) → StartsOver members plan file out result
+        go : (result : Result (Held D) (Starting D)) → StartsFrom members plan v.disk file out result
             → Begins members plan s out result
         go (Ok h) has = record {
-          gone = start-gone members plan fits file h out has;
-          in_state = λ are. begun-in plan fits out h has (found-sent s.now.bytes are rests.sound);
-          can_go = λ can. begun-in plan fits out h has can;
+          gone = start-gone members plan fits file h out has.1;
+          in_state = λ are. begun-in plan fits out h has.1 (found-sent s.now.bytes are rests.sound);
+          can_go = λ can. begun-in plan fits out h has.1 can;
         }
-        go (Err (starting.NumbersSpent spent)) has = has
+        go (Err (starting.NumbersSpent spent)) has = has.1
         go (Err (starting.DiskFailed spent)) has = (has.0, (λ t now. inr (has.1 t now)))
         go (Err (starting.NoMemory spent)) has = has
-        go (Err (starting.NotSpool raw break)) has = absurd has
+        go (Err (starting.NotSpool raw break)) has = (
+          has.0,
+          inr (rests.sound, has.1),
+          λ t now. inr (same-story t (with_sync s) (sym now ∙ has.2 ∙ now-told)),
+        )
+
+    pub found :
+        (plan : EquipmentPlan) (out : StepOut) (result : Result (Held D) (Starting D))
+        → StartsFrom members plan v.disk (standing_of members v).file out result → FindsFile s result
+    found plan out result over =
+        go result (subst (λ (f : SpoolFile). StartsFrom members plan v.disk f out result) file-is over)
+      where
+        go : (result : Result (Held D) (Starting D)) → StartsFrom members plan v.disk file out result
+            → FindsFile s result
+        go (Ok h) has = none-breaks s.now.bytes rests.sound has.0
+        go (Err (starting.NoMemory spent)) has = rests.sound
+        go (Err (starting.NumbersSpent spent)) has = none-breaks s.now.bytes rests.sound has.0
+        go (Err (starting.NotSpool raw break)) has = tt
+        go (Err (starting.DiskFailed spent)) has = tt

@@ -1,13 +1,14 @@
 -- What the code says of the pieces of a step over the disk.
-use Rattle.std.specs.Prelude.{◌≡◌, ℕ, true, All, List, [], ◌∷◌, map, Option, Some, None, Result, Ok, Err, if◌then◌else◌}
+use Rattle.std.specs.Prelude.{◌≡◌, ℕ, Bool, true, All, is_some, List, [], ◌∷◌, map, Option, Some, None, Result, Ok, Err, if◌then◌else◌}
 use Rattle.disk_base.specs.Story.{Story}
 use Rattle.disk_base.specs.Through.{EachImage}
 use Rattle.disk_base.specs.declared.disk.Disk as disk
 use Rattle.gem_spool.specs.declared.spool.GemSpool.{GemSpool}
 use Rattle.gem_spool.specs.declared.works.Work.{Work}
 use Rattle.gem_spool.specs.Standing.{Standing, count_of}
-use Rattle.gem_spool.specs.Works.{HasCarried, HasUndone, IsMarked, counts_after}
+use Rattle.gem_spool.specs.Works.{IsMarked, counts_after}
 use Rattle.message_flow.specs.declared.step.StepOut.{StepOut}
+use Rattle.setup_store.specs.OnDisk.{HoldsKept}
 use Rattle.spool_file.specs.File.{file_in}
 use Rattle.spool_file.specs.Slot.{width}
 use Rattle.spool_slots.specs.Spool.{SpoolView}
@@ -21,13 +22,14 @@ use Rattle.message_end.specs.declared.end.Stop.TheVariants as stop
 use Rattle.message_end.specs.Core.{Step, at_first}
 use Rattle.message_end.specs.Core.Went.{Goes, Spent as SpentAt}
 use Rattle.message_end.specs.Ends.{Input, printed}
-use Rattle.message_end.specs.Parts.{Node, after_parts, on_the_way}
+use Rattle.message_end.specs.Parts.{Node, after_parts, closes, on_the_way}
 use Rattle.equipment_tables.specs.declared.plan.EquipmentPlan.{EquipmentPlan}
 use Rattle.equipment_tables.specs.Plan.{EquipmentPlanFits}
 use Rattle.equipment_tables.specs.Tables.{most_transmitted}
 use Rattle.spool_ledger.specs.Ledger.{IsSome, LedgerView, carried_out, stood_count}
 use Rattle.spool_ledger.specs.Sizes.{AreSizedBy, all_sizes_after}
 use Rattle.spool_ledger.specs.Unloading.{after_next}
+use Rattle.spool_works.specs.Owed.{CarriesOwed}
 use Rattle.spool_works.specs.declared.ended.Ended.{Ended}
 use Rattle.spool_works.specs.declared.ended.Ended.TheVariants as ended
 use Rattle.tool_step.specs.declared.kind.Kind.{Kind}
@@ -38,7 +40,11 @@ use Rattle.spool_works.specs.DiskWorks.DiskWork.{Reserve}
 use Rattle.tool_step.specs.Equipment.{EquipmentView, act, begun_step, ended_step, needs_numbers, reserved, reserving}
 use Rattle.tool_step.specs.Equipment.{settled_own}
 use Rattle.tool_step.specs.Left.{Holds}
+use Rattle.tool_step.specs.Setup.{to_keep}
 use Rattle.tool_step.specs.Own.{OwnView, ToolPart, with_ledger}
+use Rattle.tool_step.specs.Spooling.{end_of_spooling}
+use Rattle.tool_step.specs.Step.{answering, offer}
+use Rattle.tool_step.specs.Taking.{taking}
 use Rattle.tool_law.specs.Sound.{CanBeSent, IsSound}
 use Rattle.equipment_node.specs.Stepping.{IsClear, IsTold, Steps}
 
@@ -60,9 +66,11 @@ pub record IsCounted {D : Type 0} (members : disk.Ghosts D) (v : SpoolView D) (l
   pub sizes : HasSizes members v ledger.stood.sizes
   pub some : All IsSome ledger.stood.sizes
 
--- so it has, and what is kept is sound: so it is between two steps, whatever its disk tells
+-- so it has, what its cell says of a setup holds, and what is kept is sound: so it is between two steps, whatever its
+-- disk tells
 pub record IsReady {D : Type 0} (members : disk.Ghosts D) (v : SpoolView D) (node : Node OwnView Kind) : Type 0 where
   pub counted : IsCounted members v node.own.ledger
+  pub holds : HoldsKept members v
   pub sound : IsSoundOwn node.own
 
 -- ---- system bytes
@@ -77,6 +85,8 @@ pub record HasOpened
   pub went : reserving s ≡ Goes (at_first (opened s))
   pub node_is : node ≡ (opened s).node
   pub clear : IsClear members g.spool (opened s)
+  -- a setup is kept where the file has an area
+  pub area : is_some s.node.own.setup ≡ is_some (opened s).file.setup.bytes
   pub told : IsTold (members.told g.spool.disk)
 
 -- the disk holds this, whatever a crash leaves, where it tells its bytes
@@ -134,21 +144,26 @@ pub record WorksFit (ledger : LedgerView) : Type 0 where
 abbrev pub settled_node : Node OwnView Kind → Node OwnView Kind
 settled_node node = record node { own = settled_own node.own }
 
+-- the bytes of a setup that are to be kept with them, if they are
+abbrev pub setup_if : Bool → OwnView → Option (List ℕ)
+setup_if keeps own = if keeps then to_keep own else None
+
 -- the disk failed at one of them, and the notes end with its line
 pub record HasCut
-    {D : Type 0} (members : disk.Ghosts D) (g : GemSpool D) (works : List Work) (out_old out_new : StepOut)
-    (spent : Spent D) : Type 0 where
+    {D : Type 0} (members : disk.Ghosts D) (g : GemSpool D) (works : List Work) (setup : Option (List ℕ))
+    (out_old out_new : StepOut) (spent : Spent D) : Type 0 where
   pub at : ℕ
-  pub undone : HasUndone members g works (record { at = at; spent = spent })
+  pub undone : CarriesOwed members g works setup (Err (record { at = at; spent = spent }))
   pub notes : out_new.notes ≡ cut_at at out_old.notes
 
 abbrev pub Carries :
-    {D : Type 0} → disk.Ghosts D → GemSpool D → List Work → StepOut → StepOut → Result (GemSpool D) (Ended D)
-    → Type 0
-Carries members g works out_old out_new (Ok h) = HasCarried members g works h × (out_new ≡ out_old)
-Carries members g works out_old out_new (Err (ended.DiskFailed spent)) = HasCut members g works out_old out_new spent
-Carries members g works out_old out_new (Err (ended.NumbersSpent spent)) = ⊥
-Carries members g works out_old out_new (Err (ended.NoMemory spent)) = ⊥
+    {D : Type 0} → disk.Ghosts D → GemSpool D → List Work → Option (List ℕ) → StepOut → StepOut
+    → Result (GemSpool D) (Ended D) → Type 0
+Carries members g works setup out_old out_new (Ok h) = CarriesOwed members g works setup (Ok h) × (out_new ≡ out_old)
+Carries members g works setup out_old out_new (Err (ended.DiskFailed spent)) =
+    HasCut members g works setup out_old out_new spent
+Carries members g works setup out_old out_new (Err (ended.NumbersSpent spent)) = ⊥
+Carries members g works setup out_old out_new (Err (ended.NoMemory spent)) = ⊥
 
 -- ---- what comes behind them
 
@@ -162,7 +177,11 @@ abbrev pub asked_node : Node OwnView Kind → Node OwnView Kind
 asked_node node =
     record node { own = with_ledger (after_next (most_transmitted node.own.tables) node.own.ledger) node.own }
 
--- the last parts are done
+-- the last parts, with the oldest message, if it was read
+abbrev pub done_last : Option (ℕ × Spooled) → ℕ → List ToolPart
+done_last oldest now = answering ∷ taking oldest ∷ end_of_spooling ∷ offer now ∷ closes ∷ []
+
+-- they are done
 abbrev pub DoesLast :
     {D : Type 0} → disk.Ghosts D → GemSpool D → List ToolPart → Node OwnView Kind → StepOut → Node OwnView Kind
     → StepOut → Result (GemSpool D) (Ended D) → Type 0

@@ -8,6 +8,7 @@ use Rattle.gem_spool.specs.declared.spool.GemSpool.{GemSpool}
 use Rattle.message_flow.specs.declared.step.StepOut.{StepOut}
 use Rattle.spool_file.specs.File.{SpoolFile, StandsFor, file_in, spool_break}
 use Rattle.spool_file.specs.Reading.{IsBreak}
+use Rattle.spool_file.specs.declared.reading.NotSpool.{NotSpool}
 use Rattle.spool_slots.specs.Files.{upgraded, with_mark_moved}
 use Rattle.spool_slots.specs.Spool.{SpoolView, spool_code}
 use Rattle.spool_slots.specs.declared.states.Recovering.{Recovering}
@@ -22,6 +23,7 @@ use Rattle.tool_core.specs.declared.own.Tool.{Tool}
 use Rattle.tool_step.specs.Equipment.{EquipmentView, act, is_marked_out, starts}
 use Rattle.tool_core.specs.Node.{node_of}
 use Rattle.tool_law.specs.Sound.{AllCanBeSent}
+use Rattle.equipment_node.specs.StartSetup.{setup_break, start_break}
 use Rattle.equipment_node.specs.Stepping.{IsOn, IsTold, Steps, view_of}
 
 -- the tool, and the spool in hand
@@ -78,12 +80,18 @@ HasMark file image =
 abbrev pub IsUntouched : Story → Story → Type 0
 IsUntouched s t = (t ≡ s) ⊎ (t ≡ with_sync s)
 
+-- the first break of bytes that stand for no spool, or that of its setup
+abbrev pub IsStartBreak : List ℕ → NotSpool → Type 0
+IsStartBreak bytes break =
+    IsBreak bytes (spool_break bytes) break
+    ⊎ ((spool_break bytes ≡ None) × (setup_break (file_in bytes) ≡ Some break))
+
 -- where it doesn't start nothing is noted
 abbrev pub Begins :
     {D : Type 0} → disk.Ghosts D → EquipmentPlan → Story → StepOut → Result (Held D) (Starting D) → Type 0
 Begins members plan s out (Ok h) = HasBegunOn members plan s.now.bytes out h
 Begins members plan s out (Err (starting.NotSpool raw break)) =
-    IsEmpty out × IsBreak s.now.bytes (spool_break s.now.bytes) break
+    IsEmpty out × IsStartBreak s.now.bytes break
     × ((t : Story) → members.told raw.disk ≡ Some t → IsUntouched s t)
 Begins members plan s out (Err (starting.NumbersSpent spent)) =
     IsEmpty out × (is_marked_out (file_in s.now.bytes).mark.value ≡ true)
@@ -97,12 +105,12 @@ Begins members plan s out (Err (starting.NoMemory spent)) =
     (out.line.items ≡ [])
     × ((t : Story) → members.told spent.disk ≡ Some t → EachImage (HasMark (file_in s.now.bytes)) t.now)
 
--- what it told stands for a spool where it starts, or lacks memory or numbers; of bytes that are no spool `Begins`
--- tells the break
+-- what it told stands for a spool and its setup where it starts, or lacks numbers; and for a spool where it lacks
+-- memory. Of other bytes `Begins` tells the break
 abbrev pub FindsFile : {D : Type 0} → Story → Result (Held D) (Starting D) → Type 0
-FindsFile s (Ok h) = spool_break s.now.bytes ≡ None
+FindsFile s (Ok h) = start_break s.now.bytes ≡ None
 FindsFile s (Err (starting.NoMemory spent)) = spool_break s.now.bytes ≡ None
-FindsFile s (Err (starting.NumbersSpent spent)) = spool_break s.now.bytes ≡ None
+FindsFile s (Err (starting.NumbersSpent spent)) = start_break s.now.bytes ≡ None
 FindsFile s (Err (starting.NotSpool raw break)) = Unit {0}
 FindsFile s (Err (starting.DiskFailed spent)) = Unit {0}
 

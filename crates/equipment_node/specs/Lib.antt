@@ -2,6 +2,7 @@ pub mod Amid
 pub mod Breaking
 pub mod Cut
 pub mod DiskCalls
+pub mod FoundSetup
 pub mod HandedBack
 pub mod Held
 pub mod InMemory
@@ -10,5 +11,6 @@ pub mod MadeReady
 pub mod SpentSteps
 pub mod StartCalls
 pub mod StartOver
+pub mod StartSetup
 pub mod StartSizes
 pub mod Stepping

@@ -6,6 +6,7 @@ use Rattle.disk_base.specs.Through.{EachImage}
 use Rattle.disk_base.specs.declared.disk.Disk as disk
 use Rattle.gem_spool.specs.declared.spool.GemSpool.{GemSpool}
 use Rattle.gem_spool.specs.Standing.{standing_of}
+use Rattle.setup_store.specs.OnDisk.{HoldsKept}
 use Rattle.spool_file.specs.File.{SpoolFile, StandsFor}
 use Rattle.spool_slots.specs.Calls.{upgrade_calls}
 use Rattle.spool_slots.specs.Changes.{Upgrades}
@@ -53,6 +54,7 @@ pub record IsMadeReady {D : Type 0} (members : disk.Ghosts D) (v : SpoolView D) 
     Type 0 where
   pub known : known_of g.spool ≡ record (known_of v) { version = 2 }
   pub sized : AreSizes members g.spool sizes
+  pub holds : HoldsKept members v → HoldsKept members g.spool
   pub fresh : IsFresh members v → IsFresh members g.spool
   pub file : IsFresh members v → (standing_of members g.spool).file ≡ upgraded (standing_of members v).file
   pub made : IsFresh members v → HasMade members v.disk g.spool.disk (ready_calls (standing_of members v).file)

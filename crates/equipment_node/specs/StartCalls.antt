@@ -20,6 +20,7 @@ use Rattle.spool_works.specs.Found.{first_in}
 use Rattle.equipment_node.specs.DiskCalls.{disk_held}
 use Rattle.equipment_node.specs.Held.{Held}
 use Rattle.equipment_node.specs.MadeReady.{HasBegun, ready_calls}
+use Rattle.equipment_node.specs.StartSetup.{setup_looks}
 
 -- how a spool stands that a start finds in a file
 abbrev pub standing_found : SpoolFile → Standing
@@ -30,9 +31,13 @@ abbrev pub reserve_calls : SpoolFile → List DiskCall
 reserve_calls file = disk_calls (standing_found file) Reserve
 
 -- the file is looked through before: a sync, a read of what is in front of its slots, and those of the slots by its
--- version; then its messages are looked at, and it is made one of version 2
+-- version; then its setup is read
+abbrev pub finding_calls : SpoolFile → List DiskCall
+finding_calls file = recover_calls file.version file.slots ++ setup_looks file
+
+-- and its messages are looked at, and it is made one of version 2
 abbrev pub taking_calls : SpoolFile → List DiskCall
-taking_calls file = recover_calls file.version file.slots ++ ready_calls file
+taking_calls file = recover_calls file.version file.slots ++ (setup_looks file ++ ready_calls file)
 
 abbrev pub start_calls : SpoolFile → List DiskCall
 start_calls file = taking_calls file ++ reserve_calls file
@@ -48,6 +53,19 @@ StartMoves members old first moves (Err (starting.NumbersSpent spent)) = HasMade
 StartMoves members old first moves (Err (starting.DiskFailed spent)) =
     HasFailedIn members old spent.disk (first ++ moves)
 StartMoves members old first moves (Err (starting.NotSpool raw break)) = ⊥
+
+-- over a spool that was just taken up: behind the looks at its setup, and where that breaks there are no others
+abbrev pub StartAsks : {D : Type 0} → disk.Ghosts D → D → SpoolFile → Result (Held D) (Starting D) → Type 0
+StartAsks members old file (Ok h) =
+    StartMoves members old (setup_looks file ++ ready_calls file) (reserve_calls file) (Ok h)
+StartAsks members old file (Err (starting.NoMemory spent)) =
+    StartMoves members old (setup_looks file ++ ready_calls file) (reserve_calls file) (Err (starting.NoMemory spent))
+StartAsks members old file (Err (starting.NumbersSpent spent)) =
+    StartMoves members old (setup_looks file ++ ready_calls file) (reserve_calls file)
+    (Err (starting.NumbersSpent spent))
+StartAsks members old file (Err (starting.DiskFailed spent)) =
+    StartMoves members old (setup_looks file ++ ready_calls file) (reserve_calls file) (Err (starting.DiskFailed spent))
+StartAsks members old file (Err (starting.NotSpool raw break)) = HasMade members old raw.disk (setup_looks file)
 
 -- ---- from a device
 
@@ -68,6 +86,13 @@ FailsOnTheWay members old new bytes =
     Failed
     ⊎ AreLooks (members.calls old) (members.calls new) (most_reads (members.told old) (members.size_is old)))
 
+-- of bytes that stand for a file its setup is read as well, which breaks; of others there are looks alone
+abbrev pub LooksInVain : {D : Type 0} → disk.Ghosts D → D → D → List ℕ → Type 0
+LooksInVain members old new bytes =
+    (spool_break bytes ≡ None → HasMade members old new (finding_calls (file_in bytes)))
+    × (spool_break bytes ≢ None →
+    AreLooks (members.calls old) (members.calls new) (most_reads (members.told old) (members.size_is old)))
+
 -- the disk's calls in a start over these bytes are these
 abbrev pub CallsInStart : {D : Type 0} → disk.Ghosts D → D → List ℕ → Result (Held D) (Starting D) → Type 0
 CallsInStart members old bytes (Ok h) = HasMade members old (disk_held h) (start_calls (file_in bytes))
@@ -75,6 +100,5 @@ CallsInStart members old bytes (Err (starting.NoMemory spent)) =
     HasBegun members old spent.disk (start_calls (file_in bytes))
 CallsInStart members old bytes (Err (starting.NumbersSpent spent)) =
     HasMade members old spent.disk (taking_calls (file_in bytes))
-CallsInStart members old bytes (Err (starting.NotSpool raw break)) =
-    AreLooks (members.calls old) (members.calls raw.disk) (most_reads (members.told old) (members.size_is old))
+CallsInStart members old bytes (Err (starting.NotSpool raw break)) = LooksInVain members old raw.disk bytes
 CallsInStart members old bytes (Err (starting.DiskFailed spent)) = FailsOnTheWay members old spent.disk bytes

@@ -1,5 +1,5 @@
 -- What the code says of a start over a spool.
-use Rattle.std.specs.Prelude.{◌≡◌, ℕ, true, false, List, [], length, Some, Result, Ok, Err}
+use Rattle.std.specs.Prelude.{◌≡◌, ℕ, true, false, List, [], length, Option, Some, None, Result, Ok, Err}
 use Rattle.disk_base.specs.Faults.{DiskHealth}
 use Rattle.disk_base.specs.Story.{Story}
 use Rattle.disk_base.specs.Through.{EachImage}
@@ -7,6 +7,7 @@ use Rattle.disk_base.specs.declared.disk.Disk as disk
 use Rattle.gem_spool.specs.declared.spool.GemSpool.{GemSpool}
 use Rattle.gem_spool.specs.Standing.{standing_of}
 use Rattle.message_flow.specs.declared.step.StepOut.{StepOut}
+use Rattle.setup_store.specs.Entries.{Entry}
 use Rattle.spool_file.specs.File.{SpoolFile, StandsFor}
 use Rattle.spool_slots.specs.Files.{upgraded}
 use Rattle.spool_slots.specs.Spool.{SpoolView}
@@ -19,6 +20,7 @@ use Rattle.equipment_node.specs.declared.equipment.Starting.TheVariants as start
 use Rattle.tool_step.specs.Equipment.{is_marked_out, started_on}
 use Rattle.spool_works.specs.Found.{first_in}
 use Rattle.equipment_node.specs.Held.{HasMark, Held}
+use Rattle.equipment_node.specs.StartSetup.{setup_break}
 use Rattle.tool_core.specs.Node.{node_of}
 use Rattle.equipment_node.specs.Stepping.{IsClear, IsTold}
 use Rattle.tool_core.specs.Starting.{new_node, IsStartNoted}
@@ -54,6 +56,19 @@ StartsOver members plan file out (Err (starting.DiskFailed spent)) = IsEmpty out
 StartsOver members plan file out (Err (starting.NoMemory spent)) = (out.line.items ≡ []) × IsLeft members file spent
 StartsOver members plan file out (Err (starting.NotSpool raw break)) = ⊥
 
+-- the setup is read before, from an old disk, and where that breaks nothing was written
+abbrev pub StartsFrom :
+    {D : Type 0} → disk.Ghosts D → EquipmentPlan → D → SpoolFile → StepOut → Result (Held D) (Starting D) → Type 0
+StartsFrom members plan old file out (Ok h) = (setup_break file ≡ None) × StartsOver members plan file out (Ok h)
+StartsFrom members plan old file out (Err (starting.NumbersSpent spent)) =
+    (setup_break file ≡ None) × StartsOver members plan file out (Err (starting.NumbersSpent spent))
+StartsFrom members plan old file out (Err (starting.DiskFailed spent)) =
+    StartsOver members plan file out (Err (starting.DiskFailed spent))
+StartsFrom members plan old file out (Err (starting.NoMemory spent)) =
+    StartsOver members plan file out (Err (starting.NoMemory spent))
+StartsFrom members plan old file out (Err (starting.NotSpool raw break)) =
+    IsEmpty out × (setup_break file ≡ Some break) × (members.told raw.disk ≡ members.told old)
+
 -- no call of a disk is to fail
 pub record IsSureDisk (health : DiskHealth) : Type 0 where
   pub fails_not : health.fail_in ≡ 0
@@ -64,14 +79,15 @@ pub record IsSureDisk (health : DiskHealth) : Type 0 where
 abbrev pub KeepsSure : {D : Type 0} → disk.Ghosts D → D → D → Type 0
 KeepsSure members old new = IsSureDisk (members.health old) → IsSureDisk (members.health new)
 
--- with these sizes and the system bytes from a base on, unless memory runs out
+-- with this setup, these sizes and the system bytes from a base on, unless memory runs out
 abbrev pub StartsWith :
-    {D : Type 0} → EquipmentPlan → GemSpool D → List ℕ → ℕ → StepOut → StepOut → Result (Held D) (Starting D) → Type 0
-StartsWith plan g sizes base out_old out_new (Ok h) =
+    {D : Type 0} → EquipmentPlan → GemSpool D → Option (List Entry) → List ℕ → ℕ → StepOut → StepOut
+    → Result (Held D) (Starting D) → Type 0
+StartsWith plan g setup sizes base out_old out_new (Ok h) =
     (h.spool ≡ g)
-    × (node_of h.tool ≡ new_node plan (new_ledger g.spool.slots g.spool.first sizes) base)
-    × IsStartNoted (length sizes) base out_old out_new
-StartsWith plan g sizes base out_old out_new (Err (starting.NoMemory spent)) = spent.disk ≡ g.spool.disk
-StartsWith plan g sizes base out_old out_new (Err (starting.NumbersSpent spent)) = ⊥
-StartsWith plan g sizes base out_old out_new (Err (starting.DiskFailed spent)) = ⊥
-StartsWith plan g sizes base out_old out_new (Err (starting.NotSpool raw break)) = ⊥
+    × (node_of h.tool ≡ new_node plan setup (new_ledger g.spool.slots g.spool.first sizes) base)
+    × IsStartNoted plan setup (length sizes) base out_old out_new
+StartsWith plan g setup sizes base out_old out_new (Err (starting.NoMemory spent)) = spent.disk ≡ g.spool.disk
+StartsWith plan g setup sizes base out_old out_new (Err (starting.NumbersSpent spent)) = ⊥
+StartsWith plan g setup sizes base out_old out_new (Err (starting.DiskFailed spent)) = ⊥
+StartsWith plan g setup sizes base out_old out_new (Err (starting.NotSpool raw break)) = ⊥

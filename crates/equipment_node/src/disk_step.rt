@@ -2,7 +2,8 @@
 //! works that are owed behind what the step is given, and for the oldest message before an unload goes on.
 
 ghost use Rattle.std.specs.Prelude.{All, ◌≡◌, ◌≢◌, ◌∷◌, [], ◌<◌, ◌≤◌, ◌%◌, ◌^◌, ◌-◌, nat_le, length, List, ℕ, true};
-ghost use Rattle.std.specs.Prelude.{Err, IfOk, Some};
+ghost use Rattle.std.specs.Prelude.{Err, IfOk, IfSome, Some};
+ghost use Rattle.std.specs.Option.{option_map};
 ghost use Rattle.arrayvec.specs.ArrayVec.{array_vec_len};
 ghost use Rattle.gem_spool.specs.Standing.{Standing, Stands, count_of};
 ghost use Rattle.gem_spool.specs.Works.{AreDue, AreSizedOn};
@@ -13,14 +14,15 @@ ghost use Rattle.message_end.specs.declared.end.Stop.TheVariants.{DiskFailed, Nu
 ghost use Rattle.message_end.specs.Core.{Step, step_in};
 ghost use Rattle.message_end.specs.Core.Went.{Goes};
 ghost use Rattle.message_end.specs.Ends.{Input, IsEmpty, MayTake, input_of, printed};
-ghost use Rattle.message_end.specs.Parts.{closes};
 ghost use Rattle.spool_ledger.specs.Ledger.{carried_out};
 ghost use Rattle.spool_ledger.specs.Sizes.{oldest_of};
 ghost use Rattle.spool_ledger.specs.Unloading.{next_number as unload_number};
 ghost use Rattle.equipment_tables.specs.Tables.{most_transmitted};
 ghost use Rattle.equipment_node.specs.Amid.{Acts, Carries, DoesLast, EndsSo, HasOpened, IsAt, IsBegun, IsCounted};
 ghost use Rattle.equipment_node.specs.Amid.{IsReady, IsSendable, Opens, StopsAt, WorksFit, asked_node, opened};
-ghost use Rattle.equipment_node.specs.Amid.{settled_node};
+ghost use Rattle.equipment_node.specs.Amid.{done_last, settled_node, setup_if};
+ghost use Rattle.setup_store.specs.Entries.{has_room};
+ghost use Rattle.setup_store.specs.OnDisk.{HoldsKept};
 ghost use Rattle.equipment_node.specs.Breaking.{BreaksBy};
 ghost use Rattle.tool_step.specs.Disk.{read_works, reserve_works, standing_in, works_behind};
 ghost use Rattle.spool_works.specs.DiskWorks.DiskWork.{ReadOldest};
@@ -31,10 +33,7 @@ ghost use Rattle.spool_works.specs.HandedBack.{HandsBack};
 ghost use Rattle.tool_step.specs.Losses.{losses, losses_of};
 ghost use Rattle.tool_core.specs.Node.{node_of};
 ghost use Rattle.tool_law.specs.Sound.{CanBeSent};
-ghost use Rattle.tool_step.specs.Spooling.{end_of_spooling};
-ghost use Rattle.tool_step.specs.Step.{offer};
 ghost use Rattle.equipment_node.specs.Stepping.{IsOn, IsTold, Steps};
-ghost use Rattle.tool_step.specs.Taking.{taking};
 
 use crate::notes_cut::cut_notes;
 use disk_base::Disk;
@@ -42,7 +41,7 @@ use gem_spool::{GemSpool, Kept, Unread, Work};
 use message_end::Stop;
 use message_flow::{NodeInput, StepOut};
 use spool_file::body_most;
-use spool_works::Ended;
+use spool_works::{Ended, carry_owed};
 use std::alloc::Global;
 use tool_core::{MORE, Spoolable, Tool, primary_function};
 use trace_log::ToolCommand;
@@ -240,7 +239,7 @@ fn from_works<D: Disk>(
         out.new.notes result }
     ensures disk { HandsBack D.Disk spool.spool.disk result }
 {
-    match carry_out(tool, alloc, spool, out) {
+    match carry_out(tool, alloc, spool, true, out) {
         Ok(spool) => from_read(tool, alloc, spool, now, out),
         Err(ended) => Err(ended),
     }
@@ -255,6 +254,7 @@ fn end_early<D: Disk>(
     out: &mut StepOut,
 ) -> Ended<D>
     requires counted { stop ≡ NumbersSpent → IsCounted D.Disk spool.spool tool.old.own.ledger }
+    requires holds { HoldsKept D.Disk spool.spool }
     ensures acts { (s : EquipmentView) → (input : Input ToolCommand) → (now : ℕ)
         → StopsAt s input now (node_of tool.old) out.old stop → HasOpened D.Disk s (opened s).node spool
         → Acts D.Disk s input now (node_of tool.new) out.new (Err result) }
@@ -283,7 +283,7 @@ fn end_early<D: Disk>(
     }
 }
 
-// A number was wanting: the works are carried out still.
+// A number was wanting: the changes of the list are carried out still.
 fn stop_spent<D: Disk>(
     tool: &mut Tool,
     alloc: Global,
@@ -291,6 +291,7 @@ fn stop_spent<D: Disk>(
     out: &mut StepOut,
 ) -> Ended<D>
     requires counted { IsCounted D.Disk spool.spool tool.old.own.ledger }
+    requires holds { HoldsKept D.Disk spool.spool }
     ensures acts { (s : EquipmentView) → (input : Input ToolCommand) → (now : ℕ)
         → StopsAt s input now (node_of tool.old) out.old NumbersSpent → HasOpened D.Disk s (opened s).node spool
         → Acts D.Disk s input now (node_of tool.new) out.new (Err result) }
@@ -307,27 +308,43 @@ fn stop_spent<D: Disk>(
         out.new.notes (Err result) }
     ensures disk { HandsBack D.Disk spool.spool.disk (Err result) }
 {
-    match carry_out(tool, alloc, spool, out) {
+    match carry_out(tool, alloc, spool, false, out) {
         Ok(spool) => Ended::NumbersSpent(spool.retire()),
         Err(ended) => ended,
     }
 }
 
-// Carries out what is owed. Where the disk fails the notes end with the line of that work.
+// Carries out what is owed, with the keep of the setup or without. Where the disk fails the notes end with the line of
+// that work.
 fn carry_out<D: Disk>(
     tool: &mut Tool,
     alloc: Global,
     spool: GemSpool<D>,
+    keeps: bool,
     out: &mut StepOut,
 ) -> Result<GemSpool<D>, Ended<D>>
     requires counted { IsCounted D.Disk spool.spool tool.old.own.ledger }
-    ensures works { Carries D.Disk spool tool.old.own.ledger.works out.old out.new result }
+    requires holds { HoldsKept D.Disk spool.spool }
+    ensures works { Carries D.Disk spool tool.old.own.ledger.works (setup_if keeps (node_of tool.old).own) out.old
+        out.new result }
     ensures node { node_of tool.new ≡ settled_node (node_of tool.old) }
     ensures fit { WorksFit tool.old.own.ledger }
     ensures line { out.new.line ≡ out.old.line }
+    ensures holds { IfOk result (λ g. HoldsKept D.Disk g.spool) }
 {
     let works = tool.own.ledger.take_works(alloc);
-    carry_all(spool, works.as_slice(), out)
+    carry_all(spool, works.as_slice(), bytes_to_keep(tool, keeps), out)
+}
+
+// The bytes of a setup that are to be kept with them, if they are.
+fn bytes_to_keep(tool: &Tool, keeps: bool) -> Option<&[u8]>
+    ensures are { option_map (λ bytes. bytes.now) result ≡ setup_if keeps (node_of tool.now).own }
+    ensures room { IfSome result (λ bytes. has_room bytes.now ≡ true) }
+{
+    if !keeps {
+        return None;
+    }
+    tool.to_keep()
 }
 
 // What comes behind the works.
@@ -414,7 +431,7 @@ fn end_with<D: Disk>(
     ensures ends { DoesLast
         D.Disk
         spool
-        (taking oldest ∷ end_of_spooling ∷ offer now ∷ closes ∷ [])
+        (done_last oldest now)
         (node_of tool.old)
         out.old
         (node_of tool.new)
@@ -430,18 +447,23 @@ fn end_with<D: Disk>(
     }
 }
 
-// Carries works out. Where the disk fails at one the notes end with its line.
+// Carries works out, and keeps a setup. Where the disk fails at one the notes end with its line.
 fn carry_all<D: Disk>(
     spool: GemSpool<D>,
     works: &[Work],
+    setup: Option<&[u8]>,
     out: &mut StepOut,
 ) -> Result<GemSpool<D>, Ended<D>>
     requires due { AreDue (count_of spool.spool) works.now }
     requires sized { AreSizedOn D.Disk spool.spool works.now }
-    ensures works { Carries D.Disk spool works.now out.old out.new result }
+    requires holds { HoldsKept D.Disk spool.spool }
+    requires room { IfSome setup (λ bytes. has_room bytes.now ≡ true) }
+    ensures works { Carries D.Disk spool works.now (option_map (λ bytes. bytes.now) setup.entry) out.old
+        out.new result }
     ensures line { out.new.line ≡ out.old.line }
+    ensures holds { IfOk result (λ g. HoldsKept D.Disk g.spool) }
 {
-    match spool.carry_out(works) {
+    match carry_owed(spool, works, setup) {
         Ok(spool) => Ok(spool),
         Err(undone) => {
             cut_notes(&mut out.notes, undone.at);

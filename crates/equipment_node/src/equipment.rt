@@ -5,6 +5,7 @@ ghost use Rattle.line_end.specs.Step.{is_due};
 ghost use Rattle.disk_base.specs.MemDisk.{HasFitted};
 ghost use Rattle.disk_base.specs.Story.{Story};
 ghost use Rattle.gem_spool.specs.Standing.{standing_of};
+ghost use Rattle.setup_store.specs.OnDisk.{HoldsKept};
 ghost use Rattle.spool_file.specs.File.{file_in};
 ghost use Rattle.trace_log.specs.Commands.{ToolCommandFits};
 ghost use Rattle.message_end.specs.Ends.{IsEmpty, MayTake, input_of};
@@ -16,11 +17,13 @@ ghost use Rattle.equipment_node.specs.Held.{Begins, FindsFile, IsIn, Moves, star
 ghost use Rattle.spool_ledger.specs.Ledger.{new_ledger};
 ghost use Rattle.tool_core.specs.Node.{node_of};
 ghost use Rattle.equipment_node.specs.SpentSteps.{IsSpentByCause, IsStartSpentByCause};
+ghost use Rattle.equipment_node.specs.FoundSetup.{FindsSetup};
 ghost use Rattle.equipment_node.specs.MadeReady.{MakesReady, UpgradesOnce, ready_calls};
-ghost use Rattle.equipment_node.specs.StartCalls.{CallsInStart, StartMoves, reserve_calls};
-ghost use Rattle.equipment_node.specs.StartOver.{IsFresh, KeepsSure, StartsOver, StartsWith};
+ghost use Rattle.equipment_node.specs.StartCalls.{CallsInStart, StartAsks, StartMoves, reserve_calls};
+ghost use Rattle.equipment_node.specs.StartOver.{IsFresh, KeepsSure, StartsFrom, StartsOver, StartsWith};
 ghost use Rattle.equipment_node.specs.StartSizes.{AreSizes};
 ghost use Rattle.tool_step.specs.Losses.{losses};
+ghost use Rattle.tool_step.specs.Setup.{setup_in};
 ghost use Rattle.tool_step.specs.Step.{deadline_of};
 
 use crate::disk_step::step_on;
@@ -31,13 +34,14 @@ use gem_spool::GemSpool;
 use gl_base::{NoMemory, Row};
 use line_end::Phase;
 use message_flow::{NodeInput, StepOut};
+use setup_store::{Loading, load};
 use spool_file::NotSpool;
 use spool_ledger::Ledger;
 use spool_slots::{Raw, Recovering, Spent, Spool};
 use spool_works::Ended;
 use std::alloc::Global;
 use std::marker::Model;
-use tool_core::Tool;
+use tool_core::{KeptSetup, Tool};
 use trace_log::ToolCommand;
 
 /// The equipment: a GEM tool at its end of the line, with the spool on its disk. All else that it keeps is on the heap,
@@ -66,9 +70,9 @@ impl<D: Disk> Model for Equipment<D> {
 /// Why an equipment didn't start. Its device is handed back.
 #[derive(Debug, Drop)]
 pub enum Starting<D> {
-    /// Memory was wanting for the sizes of its messages, two bytes each, or for the tool.
+    /// Memory was wanting for its setup, for the sizes of its messages, two bytes each, or for the tool.
     NoMemory(Spent<D>),
-    /// The device's bytes stand for no spool: the first place at which they break.
+    /// The device's bytes stand for no spool, or its setup is none: the first place at which they break.
     NotSpool(Raw<D>, NotSpool),
     /// A call of the disk failed.
     DiskFailed(Spent<D>),
@@ -77,10 +81,11 @@ pub enum Starting<D> {
 }
 
 impl<D: Disk> Equipment<D> {
-    /// A start: the spool is taken up from its device and made one of version 2, and system bytes are reserved there.
-    /// The plan is copied where it is kept, and must fit. The disk's calls are a sync, a read of what is in front of
-    /// the slots, those of the slots, a read of each message's first slot, the four of an upgrade where the file is of
-    /// version 1, and those five that move the mark, up to the first that fails. `NumbersSpent` comes where the mark of
+    /// A start: the spool is taken up from its device and made one of version 2, system bytes are reserved there, and the
+    /// setup that is kept there is carried out, if the file has an area. The plan is copied where it is kept, and must
+    /// fit. The disk's calls are a sync, a read of what is in front of the slots, those of the slots, one or two reads of
+    /// the setup, a read of each message's first slot, the four of an upgrade where the file is of version 1, and those
+    /// five that move the mark, up to the first that fails. `NumbersSpent` comes where the mark of
     /// the file can't move on, and nowhere else, and no start goes on there. Whether the disk tells its bytes or not,
     /// it is handed back with its file, and counts a fault where the answer is `DiskFailed` and nowhere else. A disk of
     /// which no call is to fail stays such.
@@ -226,7 +231,7 @@ fn why_not<D: Disk>(unknown: Recovering<D>) -> Starting<D>
     }
 }
 
-/// A start over a spool that was just taken up: it is made ready, and system bytes are reserved.
+/// A start over a spool that was just taken up: its setup is read, it is made ready, and system bytes are reserved.
 pub(crate) fn start_over<D: Disk>(
     alloc: Global,
     plan: &EquipmentPlan,
@@ -236,6 +241,29 @@ pub(crate) fn start_over<D: Disk>(
     requires plan { EquipmentPlanFits plan.now }
     requires out { IsEmpty out.old }
     ensures starts { IsFresh D.Disk spool
+        → StartsFrom D.Disk plan.now spool.disk (standing_of D.Disk spool).file out.new result }
+    ensures calls { IsFresh D.Disk spool → StartAsks D.Disk spool.disk (standing_of D.Disk spool).file result }
+    ensures disk { StartHandsBack D.Disk spool.disk result }
+    ensures keeps { IfOk result (λ h. KeepsSure D.Disk spool.disk h.spool.spool.disk) }
+{
+    match find_setup(alloc, spool) {
+        Ok((spool, setup)) => start_found(alloc, plan, spool, setup, out),
+        Err(why) => Err(why),
+    }
+}
+
+// The same behind the reading of its setup.
+fn start_found<D: Disk>(
+    alloc: Global,
+    plan: &EquipmentPlan,
+    spool: Spool<D>,
+    setup: Option<KeptSetup>,
+    out: &mut StepOut,
+) -> Result<Equipment<D>, Starting<D>>
+    requires plan { EquipmentPlanFits plan.now }
+    requires out { IsEmpty out.old }
+    requires holds { HoldsKept D.Disk spool }
+    ensures starts { IsFresh D.Disk spool → setup ≡ setup_in (standing_of D.Disk spool).file
         → StartsOver D.Disk plan.now (standing_of D.Disk spool).file out.new result }
     ensures calls { IsFresh D.Disk spool → StartMoves
         D.Disk
@@ -247,8 +275,29 @@ pub(crate) fn start_over<D: Disk>(
     ensures keeps { IfOk result (λ h. KeepsSure D.Disk spool.disk h.spool.spool.disk) }
 {
     match make_ready(alloc, spool) {
-        Ok((spool, sizes)) => start_ready(alloc, plan, spool, sizes.as_slice(), out),
+        Ok((spool, sizes)) => start_ready(alloc, plan, spool, setup, sizes.as_slice(), out),
         Err(why) => Err(why),
+    }
+}
+
+// Reads the setup that is kept, if the file has an area for one.
+fn find_setup<D: Disk>(
+    alloc: Global,
+    spool: Spool<D>,
+) -> Result<(Spool<D>, Option<KeptSetup>), Starting<D>>
+    ensures { FindsSetup D.Disk spool result }
+{
+    // (that it stands as it says is told by the call that counts its messages)
+    let _ = spool.len();
+    let mut spool = spool;
+    match load(alloc, &mut spool) {
+        Ok(bytes) => Ok((spool, Some(KeptSetup::of(bytes)))),
+        Err(Loading::NoArea) => Ok((spool, None)),
+        Err(Loading::NotSetup(place)) => {
+            Err(Starting::NotSpool(spool.retire().into_raw(), place))
+        }
+        Err(Loading::Failed) => Err(Starting::DiskFailed(spool.retire())),
+        Err(Loading::NoMemory) => Err(Starting::NoMemory(spool.retire())),
     }
 }
 
@@ -286,11 +335,12 @@ fn upgrade<D: Disk>(spool: Spool<D>) -> Result<Spool<D>, Spent<D>>
     }
 }
 
-// A start over a spool that was made ready, of messages of these sizes.
+// A start over a spool that was made ready, with the setup that was found, of messages of these sizes.
 fn start_ready<D: Disk>(
     alloc: Global,
     plan: &EquipmentPlan,
     spool: GemSpool<D>,
+    setup: Option<KeptSetup>,
     sizes: &[u16],
     out: &mut StepOut,
 ) -> Result<Equipment<D>, Starting<D>>
@@ -298,7 +348,8 @@ fn start_ready<D: Disk>(
     requires out { IsEmpty out.old }
     requires version { spool.spool.version ≡ 2 }
     requires sizes { AreSizes D.Disk spool.spool sizes.now }
-    ensures starts { IsFresh D.Disk spool.spool
+    requires holds { HoldsKept D.Disk spool.spool }
+    ensures starts { IsFresh D.Disk spool.spool → setup ≡ setup_in (standing_of D.Disk spool.spool).file
         → StartsOver D.Disk plan.now (standing_of D.Disk spool.spool).file out.new result }
     ensures calls { IsFresh D.Disk spool.spool
         → StartMoves D.Disk spool.spool.disk [] (reserve_calls (standing_of D.Disk spool.spool).file) result }
@@ -309,7 +360,7 @@ fn start_ready<D: Disk>(
     let _ = spool.len();
     match spool.reserve() {
         Ok((spool, base)) => match base {
-            Some(base) => start_with(alloc, plan, spool, sizes, base, out),
+            Some(base) => start_with(alloc, plan, spool, setup, sizes, base, out),
             None => Err(Starting::NumbersSpent(spool.retire())),
         },
         Err(spent) => Err(Starting::DiskFailed(spent)),
@@ -321,6 +372,7 @@ fn start_with<D: Disk>(
     alloc: Global,
     plan: &EquipmentPlan,
     spool: GemSpool<D>,
+    setup: Option<KeptSetup>,
     sizes: &[u16],
     base: u32,
     out: &mut StepOut,
@@ -329,13 +381,14 @@ fn start_with<D: Disk>(
     requires numbers { base + 4096 ≤ 2 ^ 32 }
     requires version { spool.spool.version ≡ 2 }
     requires sizes { AreSizes D.Disk spool.spool sizes.now }
-    ensures starts { StartsWith plan.now spool sizes.now base out.old out.new result }
+    requires holds { HoldsKept D.Disk spool.spool }
+    ensures starts { StartsWith plan.now spool setup sizes.now base out.old out.new result }
     ensures line { out.new.line ≡ out.old.line }
 {
     let Ok(ledger) = ledger_of(alloc, &spool, sizes) else {
         return Err(Starting::NoMemory(spool.retire()));
     };
-    match Tool::start_on(alloc, plan, ledger, base, out) {
+    match Tool::start_on(alloc, plan, setup, ledger, base, out) {
         Ok(tool) => Ok(Equipment { tool, spool }),
         Err(NoMemory) => Err(Starting::NoMemory(spool.retire())),
     }

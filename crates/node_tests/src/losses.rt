@@ -33,6 +33,8 @@ enum Act {
     Confirm,
     // Time, where few system bytes are left.
     Reserve,
+    // S2F37, which enables event 1: that is kept.
+    Keep,
 }
 
 // The disk stops at this call of the act: what its step has noted by then, and what is found after a crash with the old
@@ -458,6 +460,11 @@ fn acts(alloc: Global, act: Act, call: u32) -> Course {
             hears(alloc, course, 2, (5, 2, false), 1, &[0x21, 0x01, 0x00])
         }
         Act::Reserve => goes_on(alloc, armed(worn(alloc), call), NodeInput::Time),
+        Act::Keep => {
+            let course = armed(online(alloc, stored(alloc, 1)), call);
+            let enabling = &[0x01, 0x02, 0x25, 0x01, 0x01, 0x01, 0x00];
+            hears(alloc, course, 0, (2, 37, true), 9, enabling)
+        }
     }
 }
 
@@ -494,6 +501,39 @@ fn loses(alloc: Global, act: Act, loss: &Loss) -> bool {
 // Whether an act is done without this call.
 fn goes_without(alloc: Global, act: Act, call: u32) -> bool {
     matches!(acts(alloc, act, call), Course::Goes(_))
+}
+
+// Whether a start over what a crash leaves notes this.
+fn starts_with(alloc: Global, disk: &MemDisk, choice: CutChoice, notes: &[u8]) -> bool {
+    let (Some(plan), Ok(cut)) = (plan(alloc), disk.cut(alloc, choice)) else {
+        return false;
+    };
+    if !plan.fits() {
+        return false;
+    }
+    let mut out = nothing_yet(alloc);
+    match Equipment::start(alloc, &plan, Raw::new(cut), 0, &mut out) {
+        Ok(_) => noted(alloc, &out).is_some_and(|text| text.as_slice() == notes),
+        Err(_) => false,
+    }
+}
+
+// Whether the disk stops at this call of a keep behind its first line, and what is kept then is found from the write of
+// its gate on.
+fn loses_setup(alloc: Global, call: u32) -> bool {
+    let Course::Failed(spent, notes) = acts(alloc, Act::Keep, call) else {
+        return false;
+    };
+    let disk = spent.into_disk();
+    let kept: &[u8] = if call > 6 {
+        b"start len=1 base=4096\nsetup 1\n"
+    } else {
+        b"start len=1 base=4096\n"
+    };
+    let noted: &[u8] = b"rx S2F37 W 00000009 01022501010100\nkeeping S2F37 W\n";
+    notes.as_slice() == noted
+        && starts_with(alloc, &disk, CutChoice::Old, b"start len=1 base=4096\n")
+        && starts_with(alloc, &disk, CutChoice::New, kept)
 }
 
 // Whether these are all its losses: one call more is made of none.
@@ -541,6 +581,15 @@ fn a_message_is_read_slot_by_slot(rt: HostRuntime) -> Result<(), Fail> {
 #[test]
 fn a_message_is_confirmed(rt: HostRuntime) -> Result<(), Fail> {
     assert!(rt; lose_all(rt.alloc(), Act::Confirm, &CONFIRMS));
+    Ok(())
+}
+
+#[test]
+fn a_setup_is_kept(rt: HostRuntime) -> Result<(), Fail> {
+    for call in 1..9 {
+        assert!(rt; loses_setup(rt.alloc(), call));
+    }
+    assert!(rt; goes_without(rt.alloc(), Act::Keep, 9));
     Ok(())
 }
 

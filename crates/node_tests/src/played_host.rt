@@ -106,7 +106,8 @@ const IS_LINKED: Case = Case {
         ],
     ),
     text: Text::Whole(
-        b"rx S2F35 W 00000002 0102A5010201010102A501010101A5010A\nsent S2F36 00000002 210100\n",
+        b"rx S2F35 W 00000002 0102A5010201010102A501010101A5010A\nkeeping S2F35 W\nkept S2F35 W\n\
+        sent S2F36 00000002 210100\n",
     ),
 };
 
@@ -114,7 +115,9 @@ const IS_LINKED: Case = Case {
 const IS_ENABLED: Case = Case {
     now: 0,
     given: Given::Sent(2, 37, true, 3, &[0x01, 0x02, 0x25, 0x01, 0x01, 0x01, 0x00]),
-    text: Text::Whole(b"rx S2F37 W 00000003 01022501010100\nsent S2F38 00000003 210100\n"),
+    text: Text::Whole(
+        b"rx S2F37 W 00000003 01022501010100\nkeeping S2F37 W\nkept S2F37 W\nsent S2F38 00000003 210100\n",
+    ),
 };
 
 // Event 1 reports variable 1.
@@ -123,7 +126,8 @@ pub(crate) static REPORTS_ONE: [Case; 3] = [
         now: 0,
         given: Given::Define(1),
         text: Text::Whole(
-            b"rx S2F33 W 00000001 0102A5010101010102A5010A0101A50101\nsent S2F34 00000001 210100\n",
+            b"rx S2F33 W 00000001 0102A5010101010102A5010A0101A50101\nkeeping S2F33 W\nkept S2F33 W\n\
+            sent S2F34 00000001 210100\n",
         ),
     },
     IS_LINKED,

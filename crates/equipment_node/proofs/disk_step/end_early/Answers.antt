@@ -8,7 +8,7 @@ use Rattle.equipment_node.proofs.StepCalls.{none-called}
 use Rattle.equipment_node.proofs.disk_step.end_early.Goals as goal
 
 pub stop_spent-requires : goal.stop_spent-requires
-stop_spent-requires g c = record { counted = c.requires.counted c.in-NumbersSpent.is }
+stop_spent-requires g c = record { counted = c.requires.counted c.in-NumbersSpent.is; holds = c.requires.holds }
 
 pub returns-in-NumbersSpent-clause-acts : goal.returns-in-NumbersSpent-clause-acts
 returns-in-NumbersSpent-clause-acts g c s input now stops begin =

@@ -1,4 +1,4 @@
-use Rattle.std.proofs.Common.{ap, subst, sym, [], ◌∷◌, ℕ, None, Some, is_some, Option}
+use Rattle.std.proofs.Common.{ap, subst, sym, ℕ, None, Some, is_some, Option}
 use Rattle.std.specs.Prelude.{Ok, Err}
 use Rattle.gem_spool.specs.Oldest.{ReadsOldest}
 use Rattle.gem_spool.specs.declared.kept.Unread.{Unread}
@@ -6,11 +6,8 @@ use Rattle.gem_spool.specs.declared.kept.Unread.TheVariants as unread
 use Rattle.spool_slots.specs.Changes.{IsFirstSize}
 use Rattle.tool_step.specs.Disk.{standing_in}
 use Rattle.spool_works.specs.HandedBack.{HasFailed}
-use Rattle.message_end.specs.Parts.{closes}
 use Rattle.tool_core.specs.Node.{node_of}
-use Rattle.tool_step.specs.Spooling.{end_of_spooling}
-use Rattle.tool_step.specs.Step.{offer}
-use Rattle.tool_step.specs.Taking.{taking}
+use Rattle.equipment_node.specs.Amid.{done_last}
 use Rattle.equipment_node.proofs.HandingBack.{handed-then, kept-at, kept-then, last-back, looked-back, unlooked-back}
 use Rattle.equipment_node.proofs.LastParts.{last-done, no-list, none-there, read-at, read-there}
 use Rattle.equipment_node.proofs.OnDisk.{kept-of}
@@ -53,7 +50,7 @@ returns-in-Ok-clause-calls g c st stands some =
     (λ (slots : ℕ). ReadsOldest g.D.Disk c.args.spool.spool c.oldest_message.new.self.spool slots (Ok c.in-Ok.kept))
     c.oldest_size-slots.ensures c.in-Ok.ensures.reads in
     looked-called g.D.Disk st c.args.spool.spool stands _ c.oldest_message.new.self
-    (taking (Some (c.args.number, c.report_of-report.result)) ∷ end_of_spooling ∷ offer c.args.now ∷ closes ∷ [])
+    (done_last (Some (c.args.number, c.report_of-report.result)) c.args.now)
     (node_of c.args.tool.now) (node_of c.end_with.new.tool) c.args.out.now c.end_with.new.out c.end_with.result
     reads.0 c.end_with.ensures.ends
 
@@ -62,7 +59,7 @@ returns-in-Ok-clause-disk g c =
     handed-then g.D.Disk c.args.spool.spool.disk c.oldest_message.new.self.spool.disk c.end_with.result
     (looked-back g.D.Disk c.args.spool.spool c.oldest_message.new.self.spool _ c.in-Ok.ensures.reads.0)
     (last-back g.D.Disk c.oldest_message.new.self
-    (taking (Some (c.args.number, c.report_of-report.result)) ∷ end_of_spooling ∷ offer c.args.now ∷ closes ∷ [])
+    (done_last (Some (c.args.number, c.report_of-report.result)) c.args.now)
     (node_of c.args.tool.now) (node_of c.end_with.new.tool) c.args.out.now c.end_with.new.out c.end_with.result
     c.end_with.ensures.ends)
 
@@ -73,7 +70,7 @@ returns-in-Ok-clause-breaks g c s st stands some told front noted =
     (λ (slots : ℕ). ReadsOldest g.D.Disk c.args.spool.spool c.oldest_message.new.self.spool slots (Ok c.in-Ok.kept))
     c.oldest_size-slots.ensures c.in-Ok.ensures.reads in
     looked-breaks g.D.Disk s c.args.spool.spool c.oldest_message.new.self _ st front
-    (taking (Some (c.args.number, c.report_of-report.result)) ∷ end_of_spooling ∷ offer c.args.now ∷ closes ∷ [])
+    (done_last (Some (c.args.number, c.report_of-report.result)) c.args.now)
     (node_of c.args.tool.now) (node_of c.end_with.new.tool) c.args.out.now c.end_with.new.out c.end_with.new.out.notes
     c.end_with.result stands reads.0 c.end_with.ensures.ends
 
@@ -123,7 +120,7 @@ returns-in-Err-Empty-clause-disk g c =
     c.in-Err-Empty.field-0-is c.in-Err-Empty.ensures.reads in
     handed-then g.D.Disk c.args.spool.spool.disk c.oldest_message.new.self.spool.disk c.end_with-in-Err-Empty.result
     (kept-at g.D.Disk c.args.spool.spool.disk c.oldest_message.new.self.spool.disk (ap (λ v. v.disk) reads.0))
-    (last-back g.D.Disk c.oldest_message.new.self (taking None ∷ end_of_spooling ∷ offer c.args.now ∷ closes ∷ [])
+    (last-back g.D.Disk c.oldest_message.new.self (done_last None c.args.now)
     (node_of c.args.tool.now) (node_of c.end_with-in-Err-Empty.new.tool) c.args.out.now
     c.end_with-in-Err-Empty.new.out c.end_with-in-Err-Empty.result c.end_with-in-Err-Empty.ensures.ends)
 

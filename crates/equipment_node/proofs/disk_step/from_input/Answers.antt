@@ -21,7 +21,7 @@ returns-in-Ok-clause-acts g c s begin =
     (begun-of (input_of c.args.input) c.args.now (node_of c.args.tool.now) (node_of c.do_first.new.self)
     c.args.out.now c.do_first.new.out c.requires.out c.requires.ready.sound g.D.Disk s c.args.spool begin
     c.in-Ok.ensures.does)
-    (record { went = begin.went; node_is = refl; clear = begin.clear; told = begin.told })
+    (record { went = begin.went; node_is = refl; clear = begin.clear; area = begin.area; told = begin.told })
 
 pub end_early-requires : goal.end_early-requires
 end_early-requires g c = record {
@@ -29,6 +29,7 @@ end_early-requires g c = record {
       spent-counted (input_of c.args.input) c.args.now (node_of c.args.tool.now) (node_of c.do_first.new.self)
       c.args.out.now c.do_first.new.out c.requires.out c.requires.ready.sound g.D.Disk c.args.spool.spool
       c.requires.ready c.in-Err.stop c.in-Err.ensures.does same;
+  holds = c.requires.ready.holds;
 }
 
 pub returns-in-Err-clause-acts : goal.returns-in-Err-clause-acts
@@ -37,7 +38,7 @@ returns-in-Err-clause-acts g c s begin =
     (stops-of (input_of c.args.input) c.args.now (node_of c.args.tool.now) (node_of c.do_first.new.self)
     c.args.out.now c.do_first.new.out c.requires.out c.requires.ready.sound g.D.Disk s c.args.spool begin
     c.in-Err.stop c.in-Err.ensures.does)
-    (record { went = begin.went; node_is = refl; clear = begin.clear; told = begin.told })
+    (record { went = begin.went; node_is = refl; clear = begin.clear; area = begin.area; told = begin.told })
 
 pub returns-in-Ok-clause-calls : goal.returns-in-Ok-clause-calls
 returns-in-Ok-clause-calls g c s begin =
@@ -45,7 +46,7 @@ returns-in-Ok-clause-calls g c s begin =
     (begun-of (input_of c.args.input) c.args.now (node_of c.args.tool.now) (node_of c.do_first.new.self)
     c.args.out.now c.do_first.new.out c.requires.out c.requires.ready.sound g.D.Disk s c.args.spool begin
     c.in-Ok.ensures.does)
-    (record { went = begin.went; node_is = refl; clear = begin.clear; told = begin.told })
+    (record { went = begin.went; node_is = refl; clear = begin.clear; area = begin.area; told = begin.told })
 
 pub returns-in-Err-clause-calls : goal.returns-in-Err-clause-calls
 returns-in-Err-clause-calls g c s begin =
@@ -53,7 +54,7 @@ returns-in-Err-clause-calls g c s begin =
     (stops-of (input_of c.args.input) c.args.now (node_of c.args.tool.now) (node_of c.do_first.new.self)
     c.args.out.now c.do_first.new.out c.requires.out c.requires.ready.sound g.D.Disk s c.args.spool begin
     c.in-Err.stop c.in-Err.ensures.does)
-    (record { went = begin.went; node_is = refl; clear = begin.clear; told = begin.told })
+    (record { went = begin.went; node_is = refl; clear = begin.clear; area = begin.area; told = begin.told })
 
 pub returns-in-Ok-clause-disk : goal.returns-in-Ok-clause-disk
 returns-in-Ok-clause-disk g c = c.from_works.ensures.disk
@@ -69,7 +70,7 @@ returns-in-Ok-clause-breaks g c s begin =
     (begun-of (input_of c.args.input) c.args.now (node_of c.args.tool.now) (node_of c.do_first.new.self)
     c.args.out.now c.do_first.new.out c.requires.out c.requires.ready.sound g.D.Disk s c.args.spool begin
     c.in-Ok.ensures.does)
-    (record { went = begin.went; node_is = refl; clear = begin.clear; told = begin.told })
+    (record { went = begin.went; node_is = refl; clear = begin.clear; area = begin.area; told = begin.told })
 
 pub returns-in-Err-clause-breaks : goal.returns-in-Err-clause-breaks
 returns-in-Err-clause-breaks g c s begin =
@@ -77,4 +78,4 @@ returns-in-Err-clause-breaks g c s begin =
     (stops-of (input_of c.args.input) c.args.now (node_of c.args.tool.now) (node_of c.do_first.new.self)
     c.args.out.now c.do_first.new.out c.requires.out c.requires.ready.sound g.D.Disk s c.args.spool begin
     c.in-Err.stop c.in-Err.ensures.does)
-    (record { went = begin.went; node_is = refl; clear = begin.clear; told = begin.told })
+    (record { went = begin.went; node_is = refl; clear = begin.clear; area = begin.area; told = begin.told })

@@ -1,10 +1,7 @@
 use Rattle.std.proofs.Common.{subst, ℕ, [], ◌∷◌, None, Some}
 use Rattle.tool_step.specs.Disk.{standing_in}
-use Rattle.message_end.specs.Parts.{closes}
 use Rattle.tool_core.specs.Node.{node_of}
-use Rattle.tool_step.specs.Spooling.{end_of_spooling}
-use Rattle.tool_step.specs.Step.{offer}
-use Rattle.tool_step.specs.Taking.{taking}
+use Rattle.equipment_node.specs.Amid.{done_last}
 use Rattle.tool_step.specs.Losses.{losses_of}
 use Rattle.spool_works.specs.DiskCalls.{HasCalled, disk_in}
 use Rattle.spool_works.specs.DiskWorks.DiskWork.{ReadOldest}
@@ -73,7 +70,7 @@ returns-in-None-clause-calls g c t at =
     reads-by g.D.Disk t c.args.spool.spool.disk c.end_with.result None
     (number-is (node_of c.args.tool.now) t at.node_is None c.in-None.ensures.number)
     (last-called g.D.Disk (standing_in t.next) c.args.spool
-    (taking None ∷ end_of_spooling ∷ offer c.args.now ∷ closes ∷ []) (node_of c.next_unload.new.self)
+    (done_last None c.args.now) (node_of c.next_unload.new.self)
     (node_of c.end_with.new.tool) c.args.out.now c.end_with.new.out c.end_with.result c.end_with.ensures.ends)
 
 pub returns-in-Some-clause-disk : goal.returns-in-Some-clause-disk
@@ -81,7 +78,7 @@ returns-in-Some-clause-disk g c = c.end_reading.ensures.disk
 
 pub returns-in-None-clause-disk : goal.returns-in-None-clause-disk
 returns-in-None-clause-disk g c =
-    last-back g.D.Disk c.args.spool (taking None ∷ end_of_spooling ∷ offer c.args.now ∷ closes ∷ [])
+    last-back g.D.Disk c.args.spool (done_last None c.args.now)
     (node_of c.next_unload.new.self) (node_of c.end_with.new.tool) c.args.out.now c.end_with.new.out c.end_with.result
     c.end_with.ensures.ends
 
@@ -104,6 +101,6 @@ pub returns-in-None-clause-breaks : goal.returns-in-None-clause-breaks
 returns-in-None-clause-breaks g c t at s =
     reads-breaks g.D.Disk s t c.args.spool.spool.disk c.end_with.new.out.notes c.end_with.result None
     (number-is (node_of c.args.tool.now) t at.node_is None c.in-None.ensures.number)
-    (last-breaks g.D.Disk c.args.spool (taking None ∷ end_of_spooling ∷ offer c.args.now ∷ closes ∷ [])
+    (last-breaks g.D.Disk c.args.spool (done_last None c.args.now)
     (node_of c.next_unload.new.self) (node_of c.end_with.new.tool) c.args.out.now c.end_with.new.out
     c.end_with.new.out.notes c.end_with.result c.end_with.ensures.ends)

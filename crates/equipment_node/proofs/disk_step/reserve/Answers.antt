@@ -9,7 +9,7 @@ use Rattle.equipment_node.proofs.disk_step.reserve.Goals as goal
 pub returns-then-has_enough-clause-opens : goal.returns-then-has_enough-clause-opens
 returns-then-has_enough-clause-opens g c s node_is on told =
     opened-plain g.D.Disk s (node_of c.args.tool.now) c.args.spool node_is
-    (no-need s (node_of c.args.tool.now) node_is (sym c.if-has_enough.ensures)) on.clear told
+    (no-need s (node_of c.args.tool.now) node_is (sym c.if-has_enough.ensures)) on.clear told on.made.did.sound.area
 
 pub returns-clause-opens : goal.returns-clause-opens
 returns-clause-opens g c s node_is on told =

@@ -26,7 +26,7 @@ returns-in-Ok-default-Some-clause-opens g c s node_is needs on told =
     (ap (λ (core : EndView Kind). with_core core (node_of c.args.tool.now))
     (more-core c.args.tool.now.core c.more.new.self c.args.out.now c.more.new.out c.more.ensures)
     ∙ ap (λ (node : Node OwnView Kind). with_core (core_after (Command.More 4096) node.core) node) node_is)
-    needs on.clear told made
+    needs on.clear told on.made.did.sound.area made
     (subst
     (λ (b : Option ℕ).
     Stands g.D.Disk c.in-Ok-default-Some.spool.spool (standing_after_reserve b (standing_in s)))

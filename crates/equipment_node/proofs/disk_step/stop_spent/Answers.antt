@@ -1,5 +1,5 @@
 use Rattle.std.proofs.Common.{ap}
-use Rattle.std.specs.Prelude.{Ok, Err}
+use Rattle.std.specs.Prelude.{None, Ok, Err}
 use Rattle.message_flow.specs.declared.step.StepOut.{StepOut}
 use Rattle.tool_core.specs.Node.{node_of}
 use Rattle.equipment_node.proofs.HandingBack.{kept-at, kept-then, works-back}
@@ -17,9 +17,9 @@ returns-in-Ok-clause-acts g c s input now stops begin =
 
 pub returns-in-Err-clause-acts : goal.returns-in-Err-clause-acts
 returns-in-Err-clause-acts g c s input now stops begin =
-    carry-spent-failed g.D.Disk s input now begin.went c.args.spool (node_of c.args.tool.now)
-    (node_of c.carry_out.new.tool) c.args.out.now c.carry_out.new.out c.in-Err.ended stops begin.clear begin.told
-    c.in-Err.ensures.works
+    carry-spent-failed g.D.Disk s input now begin.went c.args.spool (node_of c.args.tool.now) c.args.out.now stops
+    begin.clear begin.told c.requires.counted c.in-Err.ensures.fit (node_of c.carry_out.new.tool) c.carry_out.new.out
+    c.in-Err.ended c.in-Err.ensures.works
 
 pub returns-in-Ok-clause-calls : goal.returns-in-Ok-clause-calls
 returns-in-Ok-clause-calls g c s input now stops begin =
@@ -36,12 +36,12 @@ returns-in-Err-clause-calls g c s input now stops begin =
 pub returns-in-Ok-clause-disk : goal.returns-in-Ok-clause-disk
 returns-in-Ok-clause-disk g c =
     kept-then g.D.Disk c.args.spool.spool.disk c.in-Ok.spool.spool.disk c.retire.result.disk
-    (works-back g.D.Disk c.args.spool _ c.args.out.now c.carry_out.new.out (Ok c.in-Ok.spool) c.in-Ok.ensures.works)
+    (works-back g.D.Disk c.args.spool _ None c.args.out.now c.carry_out.new.out (Ok c.in-Ok.spool) c.in-Ok.ensures.works)
     (kept-at g.D.Disk c.in-Ok.spool.spool.disk c.retire.result.disk c.retire.ensures.disk)
 
 pub returns-in-Err-clause-disk : goal.returns-in-Err-clause-disk
 returns-in-Err-clause-disk g c =
-    works-back g.D.Disk c.args.spool _ c.args.out.now c.carry_out.new.out (Err c.in-Err.ended) c.in-Err.ensures.works
+    works-back g.D.Disk c.args.spool _ None c.args.out.now c.carry_out.new.out (Err c.in-Err.ended) c.in-Err.ensures.works
 
 pub returns-in-Ok-clause-breaks : goal.returns-in-Ok-clause-breaks
 returns-in-Ok-clause-breaks g c s input now stops begin =

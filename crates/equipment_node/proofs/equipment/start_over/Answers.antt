@@ -1,56 +1,49 @@
-use Rattle.std.proofs.Common.{ℕ, List, ap, subst, sym}
-use Rattle.gem_spool.specs.Standing.{standing_of}
-use Rattle.spool_file.specs.File.{SpoolFile}
-use Rattle.spool_file.specs.declared.recovery.Known.{Known}
-use Rattle.equipment_node.specs.StartOver.{StartsOver}
-use Rattle.equipment_node.specs.StartSizes.{AreSizes}
-use Rattle.equipment_node.proofs.Beginning.{over-upgraded, unready-over}
 use Rattle.equipment_node.proofs.HandingBack.{start-then}
-use Rattle.equipment_node.proofs.MadeReady.{ready-sure}
-use Rattle.equipment_node.proofs.StartCalled.{ready-moves, unready-moves}
+use Rattle.equipment_node.proofs.SetupFound.{found-asks, found-fresh, found-is, found-over, found-sure, unfound-asks}
+use Rattle.equipment_node.proofs.SetupFound.{unfound-over}
 use Rattle.equipment_node.proofs.equipment.start_over.Goals as goal
 
-pub start_ready-requires : goal.start_ready-requires
-start_ready-requires g c = record {
+pub start_found-requires : goal.start_found-requires
+start_found-requires g c = record {
   plan = c.requires.plan;
   out = c.requires.out;
-  version = ap (λ (k : Known). k.version) c.in-Ok.ensures.known;
-  sizes =
-      subst (λ (sizes : List ℕ). AreSizes g.D.Disk c.in-Ok.spool.spool sizes) (sym c.as_slice.ensures)
-      c.in-Ok.ensures.sized;
+  holds = c.in-Ok.ensures.holds;
 }
 
 pub returns-in-Ok-clause-starts : goal.returns-in-Ok-clause-starts
 returns-in-Ok-clause-starts g c fresh =
-    let ready = c.in-Ok.ensures in
-    over-upgraded g.D.Disk c.args.plan.now (standing_of g.D.Disk c.args.spool).file c.start_ready.new.out
-    c.start_ready.result
-    (subst
-    (λ (f : SpoolFile). StartsOver g.D.Disk c.args.plan.now f c.start_ready.new.out c.start_ready.result)
-    (ready.file fresh) (c.start_ready.ensures.starts (ready.fresh fresh)))
+    let found = c.in-Ok.ensures in
+    found-over g.D.Disk c.args.plan.now c.args.spool fresh c.in-Ok.spool c.in-Ok.setup found c.start_found.new.out
+    c.start_found.result
+    (c.start_found.ensures.starts
+    (found-fresh g.D.Disk c.args.plan.now c.args.spool fresh c.in-Ok.spool c.in-Ok.setup found)
+    (found-is g.D.Disk c.args.plan.now c.args.spool fresh c.in-Ok.spool c.in-Ok.setup found))
 
 pub returns-in-Ok-clause-calls : goal.returns-in-Ok-clause-calls
 returns-in-Ok-clause-calls g c fresh =
-    ready-moves g.D.Disk c.args.spool _ _ c.in-Ok.ensures fresh c.start_ready.result
-    (c.start_ready.ensures.calls (c.in-Ok.ensures.fresh fresh))
+    let found = c.in-Ok.ensures in
+    found-asks g.D.Disk c.args.plan.now c.args.spool fresh c.in-Ok.spool c.in-Ok.setup found c.start_found.result
+    (c.start_found.ensures.calls
+    (found-fresh g.D.Disk c.args.plan.now c.args.spool fresh c.in-Ok.spool c.in-Ok.setup found))
 
 pub returns-in-Ok-clause-disk : goal.returns-in-Ok-clause-disk
 returns-in-Ok-clause-disk g c =
-    start-then g.D.Disk c.args.spool.disk _ c.start_ready.result c.in-Ok.ensures.kept c.start_ready.ensures.disk
+    start-then g.D.Disk c.args.spool.disk c.in-Ok.spool.disk c.start_found.result c.in-Ok.ensures.kept
+    c.start_found.ensures.disk
 
 pub returns-in-Ok-clause-keeps : goal.returns-in-Ok-clause-keeps
 returns-in-Ok-clause-keeps g c =
-    ready-sure g.D.Disk c.args.spool _ _ c.in-Ok.ensures c.start_ready.result c.start_ready.ensures.keeps
+    found-sure g.D.Disk c.args.spool c.in-Ok.spool c.in-Ok.setup c.in-Ok.ensures c.start_found.result
+    c.start_found.ensures.keeps
 
 pub returns-in-Err-clause-starts : goal.returns-in-Err-clause-starts
 returns-in-Err-clause-starts g c fresh =
-    unready-over g.D.Disk c.args.plan.now c.args.spool.disk (standing_of g.D.Disk c.args.spool).file c.args.out.now
-    c.requires.out c.in-Err.why (c.in-Err.ensures.1 fresh)
+    unfound-over g.D.Disk c.args.plan.now c.args.spool fresh c.args.out.now c.requires.out c.in-Err.why
+    c.in-Err.ensures
 
 pub returns-in-Err-clause-calls : goal.returns-in-Err-clause-calls
 returns-in-Err-clause-calls g c fresh =
-    unready-moves g.D.Disk c.args.spool.disk (standing_of g.D.Disk c.args.spool).file c.in-Err.why
-    (c.in-Err.ensures.1 fresh)
+    unfound-asks g.D.Disk c.args.plan.now c.args.spool fresh c.in-Err.why c.in-Err.ensures
 
 pub returns-in-Err-clause-disk : goal.returns-in-Err-clause-disk
-returns-in-Err-clause-disk g c = c.in-Err.ensures.0
+returns-in-Err-clause-disk g c = c.in-Err.ensures.back

@@ -5,6 +5,7 @@ use Rattle.gem_spool.specs.Works.{standing_after_reserve}
 use Rattle.equipment_node.proofs.Beginning.{none-left, reserved-sized, start-failed, started}
 use Rattle.equipment_node.proofs.HandingBack.{kept-at, kept-then, reserved-back, seated-back, start-then}
 use Rattle.equipment_node.proofs.HandingBack.{unreserved-back}
+use Rattle.equipment_node.proofs.Readying.{reserved-holds}
 use Rattle.equipment_node.proofs.StartCalled.{mark-moved, mark-stays, move-stops}
 use Rattle.equipment_node.proofs.Standings.{start-sure}
 use Rattle.equipment_node.proofs.equipment.start_ready.Goals as goal
@@ -21,12 +22,14 @@ start_with-requires g c =
       sizes =
           reserved-sized g.D.Disk c.args.spool c.in-Ok.spool c.args.sizes.now c.in-Some.base done c.in-Ok.ensures.list
           c.requires.sizes;
+      holds = reserved-holds g.D.Disk c.args.spool c.in-Ok.spool c.in-Some.base done c.requires.holds;
     }
 
 pub returns-in-Some-clause-starts : goal.returns-in-Some-clause-starts
-returns-in-Some-clause-starts g c fresh =
+returns-in-Some-clause-starts g c fresh setup_is =
     started g.D.Disk c.args.plan.now c.args.spool c.args.sizes.now c.requires.version c.requires.sizes fresh
-    c.len.ensures.stands c.args.out.now c.start_with.new.out c.requires.out c.in-Ok.spool c.in-Some.base
+    c.len.ensures.stands c.args.out.now c.start_with.new.out c.requires.out c.args.setup setup_is c.in-Ok.spool
+    c.in-Some.base
     (subst (λ (b : Option ℕ). ReservesFrom g.D.Disk c.args.spool c.in-Ok.spool b) c.in-Some.is
     c.in-Ok.ensures.reserve)
     (subst
@@ -38,7 +41,7 @@ returns-in-Some-clause-starts g c fresh =
     c.start_with.ensures.line c.start_with.result c.start_with.ensures.starts
 
 pub returns-in-None-clause-starts : goal.returns-in-None-clause-starts
-returns-in-None-clause-starts g c fresh =
+returns-in-None-clause-starts g c fresh setup_is =
     none-left g.D.Disk c.args.plan.now c.args.spool c.args.sizes.now c.requires.version c.requires.sizes fresh
     c.len.ensures.stands c.args.out.now c.args.out.now c.requires.out c.in-Ok.spool c.retire.result
     (subst (λ (b : Option ℕ). ReservesFrom g.D.Disk c.args.spool c.in-Ok.spool b) c.in-None.is
@@ -46,7 +49,7 @@ returns-in-None-clause-starts g c fresh =
     c.retire.ensures.disk
 
 pub returns-in-Err-clause-starts : goal.returns-in-Err-clause-starts
-returns-in-Err-clause-starts g c fresh =
+returns-in-Err-clause-starts g c fresh setup_is =
     start-failed g.D.Disk c.args.plan.now c.args.spool c.args.sizes.now c.requires.version c.requires.sizes fresh
     c.len.ensures.stands c.args.out.now c.args.out.now c.requires.out c.in-Err.spent
     (λ s is. c.in-Err.ensures.moments (standing_of g.D.Disk c.args.spool.spool) c.len.ensures.stands s is)
@@ -54,7 +57,7 @@ returns-in-Err-clause-starts g c fresh =
 pub returns-in-Some-clause-calls : goal.returns-in-Some-clause-calls
 returns-in-Some-clause-calls g c fresh =
     mark-moved g.D.Disk c.args.spool (standing_of g.D.Disk c.args.spool.spool) c.len.ensures.stands fresh.told
-    c.args.plan.now c.in-Ok.spool c.args.sizes.now c.in-Some.base c.in-Some.base c.args.out.now
+    c.args.plan.now c.in-Ok.spool c.args.setup c.args.sizes.now c.in-Some.base c.in-Some.base c.args.out.now
     c.start_with.new.out c.start_with.result
     (subst (λ (b : Option ℕ). ReservesFrom g.D.Disk c.args.spool c.in-Ok.spool b) c.in-Some.is
     c.in-Ok.ensures.reserve)
@@ -77,7 +80,7 @@ pub returns-in-Some-clause-disk : goal.returns-in-Some-clause-disk
 returns-in-Some-clause-disk g c =
     start-then g.D.Disk c.args.spool.spool.disk c.in-Ok.spool.spool.disk c.start_with.result
     (reserved-back g.D.Disk c.args.spool c.in-Ok.spool _ c.in-Ok.ensures.reserve)
-    (seated-back g.D.Disk c.args.plan.now c.in-Ok.spool c.args.sizes.now c.in-Some.base c.args.out.now
+    (seated-back g.D.Disk c.args.plan.now c.in-Ok.spool c.args.setup c.args.sizes.now c.in-Some.base c.args.out.now
     c.start_with.new.out c.start_with.result c.start_with.ensures.starts)
 
 pub returns-in-None-clause-disk : goal.returns-in-None-clause-disk
@@ -94,5 +97,5 @@ returns-in-Some-clause-keeps g c =
     start-sure g.D.Disk c.args.spool c.in-Ok.spool c.in-Some.base
     (subst (λ (b : Option ℕ). ReservesFrom g.D.Disk c.args.spool c.in-Ok.spool b) c.in-Some.is
     c.in-Ok.ensures.reserve)
-    c.args.plan.now c.args.sizes.now c.in-Some.base c.args.out.now c.start_with.new.out c.start_with.result
-    c.start_with.ensures.starts
+    c.args.plan.now c.args.setup c.args.sizes.now c.in-Some.base c.args.out.now c.start_with.new.out
+    c.start_with.result c.start_with.ensures.starts

@@ -4,5 +4,5 @@ use Rattle.equipment_node.proofs.equipment.start_with.Goals as goal
 
 pub invariant_of-result : goal.invariant_of-result
 invariant_of-result g c =
-    new-ready g.D.Disk c.args.plan.now c.requires.plan c.args.spool c.args.sizes.now c.args.base c.requires.version
-    c.requires.sizes _ (search rules)
+    new-ready g.D.Disk c.args.plan.now c.requires.plan c.args.spool c.args.setup c.args.sizes.now c.args.base
+    c.requires.version c.requires.sizes c.requires.holds _ (search rules)

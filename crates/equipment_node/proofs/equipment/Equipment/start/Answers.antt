@@ -52,7 +52,10 @@ returns-in-Err-clause-disk g c =
     (untaken-back g.D.Disk c.args.raw.disk c.in-Err.unknown c.in-Err.ensures)
 
 pub returns-in-Ok-clause-finds : goal.returns-in-Ok-clause-finds
-returns-in-Ok-clause-finds g c s told = found s c.start_over.result (c.in-Ok.ensures.1 s told).0.sound
+returns-in-Ok-clause-finds g c s told =
+    found g.D.Disk c.args.raw.disk s told c.in-Ok.spool c.in-Ok.ensures c.args.plan.now c.start_over.new.out
+    c.start_over.result
+    (c.start_over.ensures.starts (is-fresh g.D.Disk c.args.raw.disk s told c.in-Ok.spool c.in-Ok.ensures))
 
 pub returns-in-Err-clause-finds : goal.returns-in-Err-clause-finds
 returns-in-Err-clause-finds g c s told =

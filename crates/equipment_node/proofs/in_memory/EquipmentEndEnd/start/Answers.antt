@@ -13,6 +13,7 @@ use Rattle.tool_step.specs.Own.{OwnView}
 use Rattle.equipment_node.specs.MadeReady.{ready_calls}
 use Rattle.equipment_node.specs.StartCalls.{reserve_calls}
 use Rattle.equipment_node.specs.StartOver.{IsFresh}
+use Rattle.equipment_node.specs.StartSetup.{setup_looks}
 use Rattle.equipment_node.proofs.FromDisk.{bounded-by, first-reach, seated-power, start-file-is}
 use Rattle.equipment_node.proofs.Seated.{start-gone, start-in, start-whole, started-ends}
 use Rattle.equipment_node.proofs.in_memory.EquipmentEndEnd.start.Goals as goal
@@ -22,7 +23,7 @@ returns-in-Ok-start_over-clause-start c =
     let store = c.args.store in
     start-gone ghosts c.args.plan.now c.requires.plan (standing_of ghosts store).file c.in-Ok-start_over.equipment
     c.start_over.new.out
-    (c.in-Ok-start_over.ensures.starts (record { told = (store.disk.story, refl); first = c.requires.store.first }))
+    (c.in-Ok-start_over.ensures.starts (record { told = (store.disk.story, refl); first = c.requires.store.first })).1
 
 pub returns-in-Ok-start_over-clause-reach : goal.returns-in-Ok-start_over-clause-reach
 returns-in-Ok-start_over-clause-reach c =
@@ -30,7 +31,7 @@ returns-in-Ok-start_over-clause-reach c =
     let h = c.in-Ok-start_over.equipment in
     let file = (standing_of ghosts store).file in
     let fresh : IsFresh ghosts store = record { told = (store.disk.story, refl); first = c.requires.store.first } in
-    let started = c.in-Ok-start_over.ensures.starts fresh in
+    let started = (c.in-Ok-start_over.ensures.starts fresh).1 in
     first-reach h
     (start-in ghosts c.args.plan.now c.requires.plan file h c.start_over.new.out started c.requires.store.can)
     (c.in-Ok-start_over.ensures.keeps c.requires.store.sure) store.disk file c.requires.store.version
@@ -43,11 +44,11 @@ returns-in-Ok-start_over-clause-sound c =
     let h = c.in-Ok-start_over.equipment in
     let file = (standing_of ghosts store).file in
     let fresh : IsFresh ghosts store = record { told = (store.disk.story, refl); first = c.requires.store.first } in
-    let started = c.in-Ok-start_over.ensures.starts fresh in
+    let started = (c.in-Ok-start_over.ensures.starts fresh).1 in
     seated-power h
     (start-in ghosts c.args.plan.now c.requires.plan file h c.start_over.new.out started c.requires.store.can)
     (c.in-Ok-start_over.ensures.keeps c.requires.store.sure) c.of.result
-    (bounded-by store.disk h.spool.spool.disk (ready_calls file ++ reserve_calls file)
+    (bounded-by store.disk h.spool.spool.disk ((setup_looks file ++ ready_calls file) ++ reserve_calls file)
     (c.in-Ok-start_over.ensures.calls fresh) c.requires.store.bounded)
     c.stops_in.ensures.fitted
     (ap (λ (n : Node OwnView Kind). n.own.plan) started.node_is ∙ sym (c.of.ensures ∙ c.in-Ok.ensures))
@@ -55,7 +56,7 @@ returns-in-Ok-start_over-clause-sound c =
 pub returns-in-Err-clause-start : goal.returns-in-Err-clause-start
 returns-in-Err-clause-start c =
     let store = c.args.store in
-    started-ends ghosts c.args.plan.now c.start_over.new.out {E = EquipmentEnd} (standing_of ghosts store).file
+    started-ends ghosts c.args.plan.now c.start_over.new.out {E = EquipmentEnd} store.disk (standing_of ghosts store).file
     (λ end. (started_on c.args.plan.now (empty_file 0)).next) c.in-Err.why
     (c.in-Err.ensures.starts (record { told = (store.disk.story, refl); first = c.requires.store.first }))
     c.stop_at_start.result c.stop_at_start.ensures
