@@ -1,5 +1,5 @@
 -- All that is claimed of a run's log, from the laws of the crates below.
-use Rattle.std.proofs.Common.{◌<◌, List, [], refl, sym, subst, arith}
+use Rattle.std.proofs.Common.{◌<◌, List, [], Some, refl, sym, subst, arith}
 use Rattle.delivery.specs.Laws.{EndsDeliver}
 use Rattle.end_pair.specs.Laws.{IsOfMoves}
 use Rattle.end_pair.specs.Noted.{AreOfCourses, noted_by, timed_by}
@@ -11,7 +11,10 @@ use Rattle.tool_reports.specs.Laws.{ReportsAreOfTheirEvents}
 use Rattle.tool_reports.specs.Reported.{Reported}
 use Rattle.tool_spool.specs.LeavesInStep.{LeaveInTheirSteps, MessagesLeaveInStep}
 use Rattle.tool_spool.specs.MadeRoom.{MakesRoomForPuts, OverwritesForPuts}
+use Rattle.setup_law.specs.Setup.{KeepsSetup}
+use Rattle.setup_law.specs.Tables.{KeptSetupHolds}
 use Rattle.spool_file.specs.Format.{empty_file}
+use Rattle.tool_spool.specs.SetupKept.{SetupIsKept}
 use Rattle.tool_spool.specs.SpoolKept.{MayHold, SpoolIsKept, policy_of}
 use Rattle.equipment_tables.specs.Plan.{PlansFit}
 use Rattle.equipment_tables.specs.declared.plan.Plans.{Plans}
@@ -37,6 +40,8 @@ pub record LawsHold : Type 0 where
   pub kept : SpoolIsKept
   pub left : MessagesLeaveInStep
   pub used : OverwritesForPuts
+  pub set_up : SetupIsKept
+  pub told : KeptSetupHolds
   pub tables : TablesAreLookedBackFor
   pub running : WhatRunsIsLookedBackFor
   pub few : FewTracesRun
@@ -87,6 +92,11 @@ module _ (plans : Plans) (schedule : Schedule) (fit : PlansFit plans) (laws : La
         subst MakesRoomForPuts (sym courses.equipment_noted)
         (laws.used plans.equipment (empty_file plans.slots) fit.equipment some most none courses.equipment_met).puts
 
+    set-up : KeepsSetup plans.equipment (Some []) notes
+    set-up =
+        subst (KeepsSetup plans.equipment (Some [])) (sym courses.equipment_noted)
+        (laws.set_up plans.equipment (empty_file plans.slots) fit.equipment some most none courses.equipment_met).keeps
+
     pub safe : IsSafe plans (log_of plans schedule)
     safe = record {
       delivered = is-delivered plans fit laws.deliver (log_of plans schedule) moved;
@@ -103,4 +113,5 @@ module _ (plans : Plans) (schedule : Schedule) (fit : PlansFit plans) (laws : La
           courses.equipment_timed;
       spooled = holds-spool plans fit laws.take (log_of plans schedule) kept moved;
       left = record { caused = left; overwritten = used };
+      set_up = record { kept = set-up; told = laws.told plans.equipment (Some []) notes set-up };
     }

@@ -1,13 +1,14 @@
 -- The steps that are read off notes with their moments are those that were made, and what is said of S6F1 holds at each
 -- note of them.
-use Rattle.std.proofs.Common.{◌≡◌, refl, sym, ap, subst, ◌∙◌, arith, Bool, true, false, ℕ, List, [], ◌∷◌, ◌++◌, append_assoc, append-nil, if◌then◌else◌}
+use Rattle.std.proofs.Common.{◌≡◌, refl, sym, ap, subst, ◌∙◌, arith, ℕ, List, [], ◌∷◌, ◌++◌, append_assoc, append-nil}
 use Rattle.trace_log.specs.Log.{Happening}
 use Rattle.end_pair.specs.Noted.{TimedNotes, timed_behind}
 use Rattle.message_end.specs.Course.{noted_behind}
 use Rattle.equipment_tables.specs.declared.plan.EquipmentPlan.{EquipmentPlan}
 use Rattle.tool_reports.specs.Reported.{count_of}
 use Rattle.tool_reports.specs.Sampled.{AreSampled, Stepped, datas_in}
-use Rattle.line_world.specs.Cuts.{AreSampledSoFar, begins_behind, is_between, steps_in, steps_with, untimed, with_note}
+use Rattle.line_world.specs.Cuts.{AreSampledSoFar, Stage, stage_behind, stage_with, stage_within, steps_by, steps_in, steps_with, untimed, with_note}
+use Rattle.line_world.specs.Cuts.Stage.{Between, Stepping}
 use Rattle.tool_traces.specs.Steps.{stepped, with_step}
 use Rattle.tool_traces.proofs.IdleNotes.{AreAmid, AreSound, IsAmid, datas-grow, sound-before}
 use Rattle.tool_traces.proofs.TracedCourses.{AreFew, IsFewAmid, sampled-so}
@@ -25,16 +26,15 @@ timed-end now (what ∷ front) last before = timed-end now front last ((now, wha
 
 -- ---- one note more
 
-amid-under-way : (what : Happening) → IsAmid what → is_between what ≡ false
-amid-under-way (Happening.EquipmentStarted found base) is = absurd is
-amid-under-way Happening.StepEnded is = absurd is
-amid-under-way (Happening.Wrote characters) is = absurd is
-amid-under-way Happening.Power is = absurd is
-amid-under-way what is = refl
+pub amid-stage : (what : Happening) (stage : Stage) → IsAmid what → stage_with what stage ≡ stage_within stage
+amid-stage (Happening.EquipmentStarted found base) stage is = absurd is
+amid-stage Happening.StepEnded stage is = absurd is
+amid-stage (Happening.Wrote characters) stage is = absurd is
+amid-stage Happening.Power stage is = absurd is
+amid-stage what stage is = refl
 
-amid-with : (now : ℕ) (what : Happening) (before : TimedNotes) (steps : List Stepped) → IsAmid what
-    → steps_with now what before steps
-    ≡ (if begins_behind before then stepped now (untimed before) (what ∷ []) ∷ steps else with_note what steps)
+pub amid-with : (now : ℕ) (what : Happening) (before : TimedNotes) (steps : List Stepped) → IsAmid what
+    → steps_with now what before steps ≡ steps_by (stage_behind before) now what before steps
 amid-with now (Happening.EquipmentStarted found base) before steps is = absurd is
 amid-with now (Happening.Wrote characters) before steps is = absurd is
 amid-with now Happening.Power before steps is = absurd is
@@ -44,37 +44,32 @@ amid-with now what before steps is = refl
 
 -- these notes of it stand last, and it has begun behind those
 record IsOpen (now : ℕ) (before done : List Happening) (steps : List Stepped) (timed : TimedNotes) : Type 0 where
-  under_way : begins_behind timed ≡ false
+  under_way : stage_behind timed ≡ Stepping
   is : steps_in timed ≡ stepped now before done ∷ steps
 
-open-first : (now : ℕ) (what : Happening) (timed : TimedNotes) → IsAmid what → begins_behind timed ≡ true
+open-first : (now : ℕ) (what : Happening) (timed : TimedNotes) → IsAmid what → stage_behind timed ≡ Between
     → IsOpen now (untimed timed) (what ∷ []) (steps_in timed) ((now, what) ∷ timed)
 open-first now what timed amid begins = record {
-  under_way = amid-under-way what amid;
+  under_way = amid-stage what (stage_behind timed) amid ∙ ap stage_within begins;
   is =
       amid-with now what timed (steps_in timed) amid
-      ∙ ap
-      (λ (b : Bool). if b then stepped now (untimed timed) (what ∷ []) ∷ steps_in timed
-      else with_note what (steps_in timed)) begins;
+      ∙ ap (λ (stage : Stage). steps_by stage now what timed (steps_in timed)) begins;
 }
 
 -- one more is of it, be it its end
 more-with : (now : ℕ) (before done : List Happening) (steps : List Stepped) (what : Happening) (timed : TimedNotes)
     → IsOpen now before done steps timed
-    → (if begins_behind timed then stepped now (untimed timed) (what ∷ []) ∷ steps_in timed
-    else with_note what (steps_in timed))
+    → steps_by (stage_behind timed) now what timed (steps_in timed)
     ≡ stepped now before (done ++ what ∷ []) ∷ steps
 more-with now before done steps what timed begun =
-    ap
-    (λ (b : Bool). if b then stepped now (untimed timed) (what ∷ []) ∷ steps_in timed
-    else with_note what (steps_in timed)) begun.under_way
+    ap (λ (stage : Stage). steps_by stage now what timed (steps_in timed)) begun.under_way
     ∙ ap (λ (all : List Stepped). with_note what all) begun.is
 
 open-more : (now : ℕ) (before done : List Happening) (steps : List Stepped) (what : Happening) (timed : TimedNotes)
     → IsAmid what → IsOpen now before done steps timed
     → IsOpen now before (done ++ what ∷ []) steps ((now, what) ∷ timed)
 open-more now before done steps what timed amid begun = record {
-  under_way = amid-under-way what amid;
+  under_way = amid-stage what (stage_behind timed) amid ∙ ap stage_within begun.under_way;
   is = amid-with now what timed (steps_in timed) amid ∙ more-with now before done steps what timed begun;
 }
 
@@ -94,7 +89,7 @@ open-all now before done steps (what ∷ notes) timed amid begun =
 
 -- those before its end
 pub amid-steps : (now : ℕ) (notes : List Happening) (timed : TimedNotes) → AreAmid notes
-    → begins_behind timed ≡ true
+    → stage_behind timed ≡ Between
     → steps_in (timed_behind now notes timed) ≡ with_step now (untimed timed) notes (steps_in timed)
 amid-steps now [] timed amid begins = refl
 amid-steps now (what ∷ notes) timed amid begins =
@@ -103,13 +98,11 @@ amid-steps now (what ∷ notes) timed amid begins =
 
 -- with its end
 pub whole-steps : (now : ℕ) (notes : List Happening) (timed : TimedNotes) → AreAmid notes
-    → begins_behind timed ≡ true
+    → stage_behind timed ≡ Between
     → steps_in ((now, Happening.StepEnded) ∷ timed_behind now notes timed)
     ≡ stepped now (untimed timed) (notes ++ Happening.StepEnded ∷ []) ∷ steps_in timed
 whole-steps now [] timed amid begins =
-    ap
-    (λ (b : Bool). if b then stepped now (untimed timed) (Happening.StepEnded ∷ []) ∷ steps_in timed
-    else with_note Happening.StepEnded (steps_in timed)) begins
+    ap (λ (stage : Stage). steps_by stage now Happening.StepEnded timed (steps_in timed)) begins
 whole-steps now (what ∷ notes) timed amid begins =
     more-with now (untimed timed) (what ∷ notes) (steps_in timed) Happening.StepEnded
     (timed_behind now notes ((now, what) ∷ timed))
@@ -152,7 +145,7 @@ module _ (plan : EquipmentPlan) where
       next = open-more now before done steps what timed amid.0 begun
 
   -- those before the end of a step
-  pub amid-so-far : (now : ℕ) (notes : List Happening) (timed : TimedNotes) → begins_behind timed ≡ true
+  pub amid-so-far : (now : ℕ) (notes : List Happening) (timed : TimedNotes) → stage_behind timed ≡ Between
       → IsFewAmid plan (steps_in timed) (untimed timed) now notes → AreSampledSoFar plan timed
       → AreSampledSoFar plan (timed_behind now notes timed)
   amid-so-far now [] timed begins so so_far = so_far
@@ -169,7 +162,7 @@ module _ (plan : EquipmentPlan) where
       first = open-first now what timed so.amid.0 begins
 
   -- and all of one that goes on
-  pub whole-so-far : (now : ℕ) (notes : List Happening) (timed : TimedNotes) → begins_behind timed ≡ true
+  pub whole-so-far : (now : ℕ) (notes : List Happening) (timed : TimedNotes) → stage_behind timed ≡ Between
       → IsFewAmid plan (steps_in timed) (untimed timed) now notes → AreSampledSoFar plan timed
       → AreSampledSoFar plan ((now, Happening.StepEnded) ∷ timed_behind now notes timed)
   whole-so-far now notes timed begins so so_far = (

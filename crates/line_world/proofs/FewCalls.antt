@@ -1,14 +1,44 @@
 -- That a disk of which little was asked has room for more.
-use Rattle.std.proofs.Common.{◌≡◌, ◌⊎◌, inl, inr, sym, arith, subst, ◌<◌, ◌≤◌, ◌+◌, ◌-◌, ℕ, length}
+use Rattle.std.proofs.Common.{◌≡◌, ◌⊎◌, inl, inr, sym, arith, subst, ◌<◌, ◌≤◌, ◌+◌, ◌-◌, ◌==◌, ℕ, Bool, true, false, List, [], ◌∷◌, length, Option, Some, None, if◌then◌else◌}
 use Rattle.std.proofs.Math.Nat.{min-le_right}
 use Rattle.std.specs.List.{sum_by}
+use Rattle.std.specs.Option.{option_map_or}
+use Rattle.disk_base.specs.Calls.{DiskCall}
 use Rattle.message_end.specs.Ends.{Asked, most_asked, room_behind}
 use Rattle.message_end.proofs.Passing.{lacks-short}
+use Rattle.setup_store.specs.Copies.{gate_look, kept_length, list_look, load_calls, names_list, value_looks}
+use Rattle.spool_file.specs.File.{SpoolFile}
 use Rattle.tool_step.specs.Disk.{asks}
 use Rattle.tool_step.specs.End.{machine}
 use Rattle.tool_step.specs.Equipment.{EquipmentView}
 use Rattle.tool_step.specs.Losses.{LossesAreCounted, losses}
+use Rattle.tool_step.specs.Setup.{loading}
 use Rattle.line_world.specs.FewCalls.{FewCallsFindRoom}
+
+-- a start reads its setup with two calls at most: the cell, and the list or what tells where the cell is bad
+reads-few : (file : SpoolFile) → (loading file).calls ≤ 2
+reads-few file = of file.setup.bytes
+  where
+    value : ℕ
+    value = file.setup.cell.value
+
+    list-few : (empty : Bool) (look : DiskCall) → length (if empty then [] else look ∷ []) ≤ 1
+    list-few true look = omega arith
+    list-few false look = omega arith
+
+    looks-few : (good : Bool) (list : List DiskCall) → length list ≤ 1
+        → length (if good then list else gate_look) ≤ 1
+    looks-few true list few = few
+    looks-few false list few = omega arith
+
+    calls-few : length (load_calls file.slots value) ≤ 2
+    calls-few =
+        let few = looks-few (names_list value) (list_look file.slots value) (list-few (kept_length value == 0) _) in
+        omega (arith, few)
+
+    of : (kept : Option (List ℕ)) → option_map_or (λ bytes. length (load_calls file.slots value)) kept 0 ≤ 2
+    of None = omega arith
+    of (Some bytes) = calls-few
 
 -- a start leaves room for more than 62,000 calls and 64,000,000 bytes
 record IsRoomy (used : Asked) : Type 0 where
@@ -18,12 +48,15 @@ record IsRoomy (used : Asked) : Type 0 where
 module _ (start : EquipmentView) (most : start.file.slots ≤ 1024) (has : length start.file.list ≤ start.file.slots)
   where
     first-roomy : IsRoomy (machine.first_use start)
-    first-roomy = record { calls = omega (arith, most, has); bytes = omega (arith, most) }
+    first-roomy =
+        let read = reads-few start.file in
+        record { calls = omega (arith, most, has, read); bytes = omega (arith, most) }
 
     anew-roomy : IsRoomy (machine.anew_use start)
     anew-roomy =
         let last = min-le_right start.file.slots 257 in
-        record { calls = omega (arith, most, has, last); bytes = omega arith }
+        let read = reads-few start.file in
+        record { calls = omega (arith, most, has, last, read); bytes = omega arith }
 
     roomy : (used : Asked) → (used ≡ machine.first_use start) ⊎ (used ≡ machine.anew_use start) → IsRoomy used
     roomy used (inl is) = subst IsRoomy (sym is) first-roomy

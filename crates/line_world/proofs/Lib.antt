@@ -4,6 +4,7 @@ mod Behind
 mod Bodies
 mod Carried
 mod Claims
+mod CutStarts
 mod CutSteps
 mod Disks
 mod Emptied

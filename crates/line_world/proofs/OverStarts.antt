@@ -3,6 +3,7 @@
 use Rattle.std.proofs.Common.{◌≡◌, ◌⊎◌, ◌&&◌, ◌||◌, ◌==◌, ◌%◌, nat_eq, not, ℕ, Bool, true, false, List, [], ◌∷◌, drop, length, option_to_list, Option, Some, None, if◌then◌else◌, inl, inr, refl, sym, ap, subst, ◌∙◌, arith}
 use Rattle.std.specs.List.{list_any}
 use Rattle.std.proofs.lemmas.Bool.Decides.{nat_tests}
+use Rattle.tool_reports.proofs.QuietNotes.{as-said}
 use Rattle.tool_reports.specs.Reported.{Happened, HoldsItsValues, IsOfEvent, Reported, events_in, is_event_report, is_live, is_of, past_in, tries_in}
 use Rattle.equipment_tables.specs.declared.plan.EquipmentPlan.{EquipmentPlan}
 use Rattle.message_end.specs.Own.{Has}
@@ -312,7 +313,11 @@ module _ (plan : EquipmentPlan) where
         (λ message reported kept all.
         record {
           are = are-on (Happening.Sent message) before (shelf_of before) refl all.are;
-          tell = (sent before (shelf_of before) message reported.1 kept.0 all.are, all.tell);
+          tell = (
+            sent before (shelf_of before) message (as-said plan (Happening.Sent message) before tt reported) kept.0
+                all.are,
+            all.tell,
+          );
         })
         (λ ceid dataid reported kept all.
         record {
@@ -320,7 +325,8 @@ module _ (plan : EquipmentPlan) where
           tell = (tt, all.tell);
         })
         (λ number message reported kept all.
-        let tells : IsTold before message = λ is. of-start message.body before (reported.1 is) in
+        let tells : IsTold before message =
+        λ is. of-start message.body before (as-said plan (Happening.Storing number message) before tt reported is) in
         record {
           are = stored before (shelf_of before) number message tells all.are;
           tell = (tells, all.tell);
@@ -343,7 +349,7 @@ module _ (plan : EquipmentPlan) where
       are = record { stands = λ one has. absurd has; storing = λ one is. absurd (cc); told = λ system is. absurd (cc) };
       tell = tt;
     }
-    all (what ∷ before) reported kept = goes before what reported kept (all before reported.2 kept.1)
+    all (what ∷ before) reported kept = goes before what reported kept (all before reported.1 kept.1)
 
     pub over-starts : (notes : List Happening) → Reported plan notes → KeepsSpool policy notes
         → TellOfEvents plan notes

@@ -1,5 +1,5 @@
 -- What is said of S6F1 at each entry of the equipment: its steps are those of its course, at their moments.
-use Rattle.std.proofs.Common.{◌≡◌, refl, sym, ap, subst, ◌∙◌, arith, Bool, true, false, ℕ, List, [], ◌∷◌, ◌++◌, Option, Some, None, if◌then◌else◌}
+use Rattle.std.proofs.Common.{◌≡◌, refl, sym, ap, subst, ◌∙◌, Bool, true, false, ℕ, List, [], ◌∷◌, ◌++◌, Option, Some, None, if◌then◌else◌}
 use Rattle.disk_base.specs.declared.cut.CutChoice.{CutChoice}
 use Rattle.gem_trace.specs.Laws.{FewTracesRun, WhatRunsIsLookedBackFor}
 use Rattle.spool_file.specs.File.{SpoolFile}
@@ -27,12 +27,14 @@ use Rattle.tool_reports.proofs.Reporting.{tables-so}
 use Rattle.tool_traces.specs.Steps.{stepped, steps_behind, steps_broken, steps_filled, steps_met, steps_started, with_step}
 use Rattle.tool_traces.proofs.IdleNotes.{AreSound}
 use Rattle.tool_traces.proofs.TracedCourses.{AreFew, FileWent, IsCourseSo, IsFewAmid, IsReachedSo, NotesFew, NotesWhole, act-notes, course-so, few-so, few-with, lost-so, power-so, sampled-so, whole-step}
-use Rattle.line_world.specs.Cuts.{AreSampledSoFar, begins_behind, steps_in, untimed}
+use Rattle.line_world.specs.Cuts.{AreSampledSoFar, stage_behind, steps_in, untimed}
+use Rattle.line_world.specs.Cuts.Stage.{Between}
+use Rattle.line_world.proofs.CutStarts.{IsStarted, start-so}
 use Rattle.line_world.proofs.CutSteps.{amid-so-far, amid-steps, timed-end, untimed-behind, whole-so-far, whole-steps}
 
 -- between two steps, where it goes on
 abbrev BeginsAt : Course EquipmentView → TimedNotes → Type 0
-BeginsAt (Reached s notes) timed = begins_behind timed ≡ true
+BeginsAt (Reached s notes) timed = stage_behind timed ≡ Between
 BeginsAt (Stopped notes) timed = Unit {0}
 
 module _ (plan : EquipmentPlan) where
@@ -47,7 +49,7 @@ module _ (plan : EquipmentPlan) where
 
   module _ (now : ℕ) (steps : List Stepped) (notes : List Happening) (before : TimedNotes)
       (same_notes : untimed before ≡ notes) (same_steps : steps_in before ≡ steps)
-      (begins : begins_behind before ≡ true) (so_far : AreSampledSoFar plan before) where
+      (begins : stage_behind before ≡ Between) (so_far : AreSampledSoFar plan before) where
     read-off : (front : List Happening) → IsFewAmid plan steps notes now front
         → IsFewAmid plan (steps_in before) (untimed before) now front
     read-off front so =
@@ -91,7 +93,7 @@ module _ (plan : EquipmentPlan) where
           (λ (all : List Stepped). stepped now notes (front ++ Happening.StepEnded ∷ []) ∷ all) same_steps
           ∙ ap (λ (ns : List Happening). stepped now notes ns ∷ steps) (sym is)
           ∙ sym (whole-step now notes noted front steps is);
-      between = ap (λ (all : TimedNotes). begins_behind all) timed_is;
+      between = ap (λ (all : TimedNotes). stage_behind all) timed_is;
       so_far =
           subst (λ (all : TimedNotes). AreSampledSoFar plan all) (sym timed_is)
           (whole-so-far plan now front before begins (read-off front so) so_far);
@@ -132,11 +134,8 @@ module _ (plan : EquipmentPlan) where
       here : TimedNotes
       here = timed_behind now (started_on other file).notes before
 
-      none-due : AreFew plan [] (untimed here)
-      none-due = record {
-        sound = subst AreSound (sym same_notes) sound;
-        few = λ body. omega (arith);
-      }
+      started : IsStarted plan here
+      started = start-so plan other file now before (subst AreSound (sym same_notes) sound) so_far
 
       go : (spent : Bool) → timed ≡ timed_behind now (step_in (went spent)).notes before
           → AreCut (steps_started (went spent) steps) (went_on (went spent) notes) timed
@@ -147,11 +146,11 @@ module _ (plan : EquipmentPlan) where
           subst (λ (all : TimedNotes). AreCut [] (went_on (went false) notes) all) (sym is)
           (record {
             notes =
-                ap
-                (λ (all : List Happening). noted_behind (started_on other file).notes all) same_notes;
-            steps_are = refl;
-            between = refl;
-            so_far = (sampled-so plan [] (untimed here) none-due, so_far);
+                untimed-behind now (started_on other file).notes before
+                ∙ ap (λ (all : List Happening). noted_behind (started_on other file).notes all) same_notes;
+            steps_are = started.none;
+            between = started.between;
+            so_far = started.so_far;
           })
 
   -- ---- the world notes something
@@ -161,7 +160,7 @@ module _ (plan : EquipmentPlan) where
       (what : Happening) (steps : List Stepped) (s : EquipmentView) (notes : List Happening)
       (before timed : TimedNotes) → AreCut steps (Reached s notes) before → IsNotedThen what before timed
       → ((moment : ℕ) → steps_in ((moment, what) ∷ before) ≡ steps_in before)
-      → ((moment : ℕ) → begins_behind ((moment, what) ∷ before) ≡ true) → AreFew plan steps (what ∷ notes)
+      → ((moment : ℕ) → stage_behind ((moment, what) ∷ before) ≡ Between) → AreFew plan steps (what ∷ notes)
       → AreCut steps (Reached s (what ∷ notes)) timed
   noted-cut what steps s notes before timed cut noted stay begin few =
       subst (λ (all : TimedNotes). AreCut steps (Reached s (what ∷ notes)) all) (sym noted.is)
@@ -277,14 +276,14 @@ module _ (plan : EquipmentPlan) where
         subst
         (λ (all : TimedNotes). AreCut [] (course_of (started_on plan file) machine []) all) (sym is)
         (record {
-          notes = refl;
-          steps_are = refl;
-          between = refl;
-          so_far = (sampled-so plan [] (started_on plan file).notes first, tt);
+          notes = untimed-behind 0 (started_on plan file).notes [];
+          steps_are = started.none;
+          between = started.between;
+          so_far = started.so_far;
         })
       where
-        first : AreFew plan [] (started_on plan file).notes
-        first = record { sound = (tt, tt); few = λ body. omega (arith) }
+        started : IsStarted plan (timed_behind 0 (started_on plan file).notes [])
+        started = start-so plan plan file 0 [] (tt, tt) tt
     course-cut fits tables file can (meeting ∷ meetings) timed is =
         meeting-cut meeting (steps_met (started_on plan file) meetings)
         (course_of (started_on plan file) machine meetings)

@@ -1,10 +1,12 @@
 -- What is said of a safe log holds at each of its entries.
-use Rattle.std.proofs.Common.{List, [], ◌∷◌, ◌++◌}
+use Rattle.std.proofs.Common.{List, [], ◌∷◌, ◌++◌, Some}
 use Rattle.end_pair.specs.Noted.{noted_by, timed_by}
 use Rattle.equipment_tables.specs.declared.plan.EquipmentPlan.{EquipmentPlan}
 use Rattle.tool_reports.specs.Reported.{Reported}
 use Rattle.tool_spool.specs.LeavesInStep.{LeaveInTheirSteps}
 use Rattle.tool_spool.specs.MadeRoom.{MakesRoomForPuts}
+use Rattle.setup_law.specs.Setup.{KeepsSetup}
+use Rattle.setup_law.specs.Tables.{KeptSetupHolds}
 use Rattle.tool_spool.specs.SpoolKept.{policy_of}
 use Rattle.gl_base.specs.declared.side.Side.TheVariants.{Equipment, Host}
 use Rattle.spool_delivery.specs.Laws.{IsSpoolTaken}
@@ -46,25 +48,29 @@ sampled-so-far plan (Noted moment Host what ∷ later) log all = sampled-so-far 
 sampled-so-far plan (Slipped moment side frame characters ∷ later) log all = sampled-so-far plan later log all
 sampled-so-far plan (Ended moment ∷ later) log all = sampled-so-far plan later log all
 
-pub holds-at-each : HoldsAtEachEntry
-holds-at-each plans later log safe = record {
-  delivered = delivered-so-far later log safe.delivered;
-  in_order = order-so-far plans later log (order-at plans (later ++ log) safe.in_order);
-  reported =
-      record {
-        in_their_start =
-            notes-so-far (Reported plans.equipment) (λ what before all. all.2) later log safe.reported.in_their_start;
-        over_all_starts =
-            notes-so-far (TellOfEvents plans.equipment) (λ what before all. all.1) later log
-            safe.reported.over_all_starts;
-      };
-  sampled = sampled-so-far plans.equipment later log safe.sampled;
-  spooled = spooled-so-far _ later log safe.spooled;
-  left =
-      record {
-        caused =
-            notes-so-far (LeaveInTheirSteps (policy_of plans.equipment plans.slots)) (λ what before all. all.1) later
-            log safe.left.caused;
-        overwritten = notes-so-far MakesRoomForPuts (λ what before all. all.1) later log safe.left.overwritten;
-      };
-}
+pub holds-at-each : KeptSetupHolds → HoldsAtEachEntry
+holds-at-each told plans later log safe =
+    let kept : KeepsSetup plans.equipment (Some []) (noted_by Equipment log) =
+    notes-so-far (KeepsSetup plans.equipment (Some [])) (λ what before all. all.1) later log safe.set_up.kept in
+    record {
+      delivered = delivered-so-far later log safe.delivered;
+      in_order = order-so-far plans later log (order-at plans (later ++ log) safe.in_order);
+      reported =
+          record {
+            in_their_start =
+                notes-so-far (Reported plans.equipment) (λ what before all. all.1) later log safe.reported.in_their_start;
+            over_all_starts =
+                notes-so-far (TellOfEvents plans.equipment) (λ what before all. all.1) later log
+                safe.reported.over_all_starts;
+          };
+      sampled = sampled-so-far plans.equipment later log safe.sampled;
+      spooled = spooled-so-far _ later log safe.spooled;
+      left =
+          record {
+            caused =
+                notes-so-far (LeaveInTheirSteps (policy_of plans.equipment plans.slots)) (λ what before all. all.1) later
+                log safe.left.caused;
+            overwritten = notes-so-far MakesRoomForPuts (λ what before all. all.1) later log safe.left.overwritten;
+          };
+      set_up = record { kept = kept; told = told plans.equipment (Some []) (noted_by Equipment log) kept };
+    }

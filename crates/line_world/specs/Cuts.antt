@@ -1,6 +1,7 @@
 -- The steps that the equipment has made since its newest start, read off its notes and their moments: each ends where
--- it has noted its end. And what is said of S6F1, at each note. The newest comes first.
-use Rattle.std.specs.Prelude.{ℕ, Bool, true, false, List, [], ◌∷◌, ◌++◌, map, if◌then◌else◌}
+-- it has noted its end, as the start does, of which none is a step. And what is said of S6F1, at each note. The newest
+-- comes first.
+use Rattle.std.specs.Prelude.{ℕ, List, [], ◌∷◌, ◌++◌, map}
 use Rattle.trace_log.specs.Log.{Happening}
 use Rattle.equipment_tables.specs.declared.plan.EquipmentPlan.{EquipmentPlan}
 use Rattle.tool_reports.specs.Sampled.{AreSampled, Stepped}
@@ -10,30 +11,50 @@ use Rattle.end_pair.specs.Noted.{TimedNotes}
 abbrev pub untimed : TimedNotes → List Happening
 untimed timed = map (λ (note : ℕ × Happening). note.1) timed
 
--- no step is under way behind such a note: it ends a step, is a start, or is none of the equipment's own
-abbrev pub is_between : Happening → Bool
-is_between Happening.StepEnded = true
-is_between (Happening.EquipmentStarted found base) = true
-is_between (Happening.Wrote characters) = true
-is_between Happening.Power = true
-is_between _ = false
+-- ---- what is under way
 
-abbrev pub begins_behind : TimedNotes → Bool
-begins_behind [] = true
-begins_behind (note ∷ before) = is_between note.1
+-- a start, which notes what it finds of its setup; neither start nor step; or a step
+pub data Stage : Type 0 where
+  Starting : Stage
+  Between : Stage
+  Stepping : Stage
+
+-- behind a note that begins or ends neither
+abbrev pub stage_within : Stage → Stage
+stage_within Starting = Starting
+stage_within _ = Stepping
+
+-- a note more: it is a start, the end of one or of a step, none of the equipment's own, or of what is under way
+abbrev pub stage_with : Happening → Stage → Stage
+stage_with (Happening.EquipmentStarted found base) stage = Starting
+stage_with Happening.StepEnded stage = Between
+stage_with (Happening.Wrote characters) stage = Between
+stage_with Happening.Power stage = Between
+stage_with _ stage = stage_within stage
+
+abbrev pub stage_behind : TimedNotes → Stage
+stage_behind [] = Between
+stage_behind (note ∷ before) = stage_with note.1 (stage_behind before)
+
+-- ---- the steps
 
 -- a note more of the step that is under way
 abbrev pub with_note : Happening → List Stepped → List Stepped
 with_note what [] = []
 with_note what (step ∷ steps) = record step { notes = step.notes ++ what ∷ [] } ∷ steps
 
--- a note more: it is of the step that is under way, or begins one at its moment; and a start leaves none
+-- the note of a start is of no step; another is of the step that is under way, or begins one at its moment
+abbrev pub steps_by : Stage → ℕ → Happening → TimedNotes → List Stepped → List Stepped
+steps_by Starting now what before steps = steps
+steps_by Between now what before steps = stepped now (untimed before) (what ∷ []) ∷ steps
+steps_by Stepping now what before steps = with_note what steps
+
+-- a note more; a start leaves none
 abbrev pub steps_with : ℕ → Happening → TimedNotes → List Stepped → List Stepped
 steps_with now (Happening.EquipmentStarted found base) before steps = []
 steps_with now (Happening.Wrote characters) before steps = steps
 steps_with now Happening.Power before steps = steps
-steps_with now what before steps =
-    if begins_behind before then stepped now (untimed before) (what ∷ []) ∷ steps else with_note what steps
+steps_with now what before steps = steps_by (stage_behind before) now what before steps
 
 abbrev pub steps_in : TimedNotes → List Stepped
 steps_in [] = []

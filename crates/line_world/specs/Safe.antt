@@ -1,5 +1,5 @@
 -- All that is claimed of the log of a run (this profile).
-use Rattle.std.specs.Prelude.{◌≡◌, ℕ, List, ◌++◌}
+use Rattle.std.specs.Prelude.{◌≡◌, ℕ, List, [], ◌++◌, Some}
 use Rattle.delivery.specs.Order.{AreInOrder}
 use Rattle.end_pair.specs.Laws.{AreNoNotes, IsOfMoves}
 use Rattle.end_pair.specs.Noted.{noted_by, timed_by}
@@ -7,6 +7,8 @@ use Rattle.tool_law.specs.Laws.{DidOf}
 use Rattle.tool_reports.specs.Reported.{Reported}
 use Rattle.tool_spool.specs.LeavesInStep.{LeaveInTheirSteps}
 use Rattle.tool_spool.specs.MadeRoom.{MakesRoomForPuts}
+use Rattle.setup_law.specs.Setup.{KeepsSetup}
+use Rattle.setup_law.specs.Tables.{TellsSetup}
 use Rattle.tool_spool.specs.SpoolKept.{policy_of}
 use Rattle.equipment_tables.specs.declared.plan.Plans.{Plans}
 use Rattle.gl_base.specs.declared.side.Side.TheVariants as side
@@ -63,9 +65,17 @@ pub record LeavesInSteps (plans : Plans) (log : List Entry) : Type 0 where
   pub caused : LeaveInTheirSteps (policy_of plans.equipment plans.slots) (noted_by side.Equipment log)
   pub overwritten : MakesRoomForPuts (noted_by side.Equipment log)
 
+-- each start of the equipment finds the setup that the start before it found, carried on by what was kept since; what
+-- was being kept as power was lost may count, and nothing else. It carries that out in order, before anything else. What
+-- the host changes of it is kept before it is answered. And what is kept tells the constants, reports, links, enables and
+-- the rule of spooling that hold. The disk of a run is new, with room for a list, which is empty
+pub record HoldsSetup (plans : Plans) (log : List Entry) : Type 0 where
+  pub kept : KeepsSetup plans.equipment (Some []) (noted_by side.Equipment log)
+  pub told : TellsSetup plans.equipment (Some []) (noted_by side.Equipment log)
+
 -- at each entry of the log, over all starts of the equipment: each message received was sent by the other end, whole,
 -- once in a start of its receiver, and in order; reports hold the values of their events, and trace data those of their
--- samples; and the spool is kept, taken in order, and left in the steps of the causes
+-- samples; the spool is kept, taken in order, and left in the steps of the causes; and the setup is kept
 pub record IsSafe (plans : Plans) (log : List Entry) : Type 0 where
   pub delivered : Delivered log
   pub in_order : ComesInOrder plans log
@@ -73,6 +83,7 @@ pub record IsSafe (plans : Plans) (log : List Entry) : Type 0 where
   pub sampled : HoldsSamples plans log
   pub spooled : HoldsSpool plans log
   pub left : LeavesInSteps plans log
+  pub set_up : HoldsSetup plans log
 
 -- of the entries so far, the newest of which may stand in the middle of a step: they are those of moves on one line,
 -- each of which its end may make, and in these messages are received in order; at most what no end has noted stands
@@ -94,6 +105,7 @@ pub record HoldsSoFar (plans : Plans) (log : List Entry) : Type 0 where
   pub sampled : HoldsSamples plans log
   pub spooled : HoldsSpool plans log
   pub left : LeavesInSteps plans log
+  pub set_up : HoldsSetup plans log
 
 -- it holds at each entry of a safe log, by all entries up to that one
 abbrev pub HoldsAtEachEntry : Type 0

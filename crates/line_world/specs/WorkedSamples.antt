@@ -1,5 +1,5 @@
 -- Trace data in logs that can be followed by hand: which steps they tell of, and some that no plans make safe.
-use Rattle.std.specs.Prelude.{◌≡◌, ℕ, true, List, [], ◌∷◌}
+use Rattle.std.specs.Prelude.{◌≡◌, ℕ, true, List, [], ◌∷◌, None}
 use Rattle.end_pair.specs.Noted.{TimedNotes}
 use Rattle.equipment_tables.specs.declared.plan.Plans.{Plans}
 use Rattle.gl_base.specs.declared.side.Side.TheVariants.{Equipment}
@@ -20,10 +20,12 @@ timed_asked message s6f1 =
     (2000, Happening.StepEnded) ∷ (2000, Happening.Sent s6f1) ∷ (1000, Happening.StepEnded) ∷ (1000, Happening.Set 1)
     ∷ (1000, Happening.Recorded (Past.Commanded (Set 1 (item.U4 (9 ∷ []))))) ∷ (1000, Happening.StepEnded)
     ∷ (0, Happening.StepEnded) ∷ (0, Happening.Recorded (Past.Asked message)) ∷ (0, Happening.Received message)
-    ∷ (0, Happening.EquipmentStarted [] 0) ∷ []
+    ∷ (0, Happening.StepEnded) ∷ (0, Happening.Setup None) ∷ (0, Happening.EquipmentStarted [] 0) ∷ []
 
 abbrev pub started : List Entry
-started = Noted 0 Equipment (Happening.EquipmentStarted [] 0) ∷ []
+started =
+    Noted 0 Equipment Happening.StepEnded ∷ Noted 0 Equipment (Happening.Setup None)
+    ∷ Noted 0 Equipment (Happening.EquipmentStarted [] 0) ∷ []
 
 -- its S6F1 goes out with the first sample
 abbrev pub early : Message → Message → List Entry

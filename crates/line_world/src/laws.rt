@@ -7,12 +7,15 @@ ghost use Rattle.line_world.specs.Worked.{WorkedRounds};
 ghost use Rattle.line_world.specs.WorkedSamples.{DataOutOfTurn};
 ghost use Rattle.line_world.specs.WorkedSteps.{LateReplies};
 
+use setup_law::kept_setup_holds;
 use tool_step::losses_are_counted;
 
 /// What is said of a safe log holds at each of its entries, by all entries up to that one.
 pub fn holds_at_each_entry()
     ensures { HoldsAtEachEntry }
-{}
+{
+    kept_setup_holds();
+}
 
 /// No step of an end goes on past its moment: between two notes of an end in a safe log that are of two moments, the
 /// end has noted that a step has ended, or that it has started.

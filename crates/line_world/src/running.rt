@@ -19,25 +19,27 @@ use gl_base::Sink;
 use host_node::Host;
 use line_schedule::Schedule;
 use message_end::End;
+use setup_law::kept_setup_holds;
 use spool_delivery::spool_is_taken_in_order;
 use std::alloc::Global;
 use tool_reports::reports_are_of_their_events;
-use tool_spool::{messages_leave_in_step, overwrites_for_puts, spool_is_kept};
+use tool_spool::{messages_leave_in_step, overwrites_for_puts, setup_is_kept, spool_is_kept};
 
 /// Carries out a schedule on the line between a tool and its host, losses of the tool's power included, and writes the
 /// trace of what both note. The log of that trace is safe, up to the first slip: each message delivered was sent by the
 /// other end, whole, and once in a start of its receiver, and messages are delivered in order; each report that the
 /// tool sends, at once or out of its spool, in that start or a later one, holds what its variables held as its event
 /// happened, or as it was asked for; its trace data hold what they held at the samples; what the tool spools is there
-/// at each of its starts until it leaves, in the step that has brought the cause, and is taken by the host in order.
+/// at each of its starts until it leaves, in the step that has brought the cause, and is taken by the host in order;
+/// and each start finds the setup of the start before it, carried on by what was kept since, and carries it out.
 /// Hands the world back exactly where it answers `Whole`.
 ///
 /// The disk of the tool's spool is in memory, and new. A run has no turn left exactly where all 4,000,000 steps are
 /// made and one is left, or where a step comes to a call of that disk that would be its 65,537th since it was made or
 /// power was lost, or would pass 64 MiB that are written since, and at which no cut takes the power. The calls count
 /// that make the file, 34 and one a slot, or take it up again, two and two a slot and one more of each of the last
-/// 257; the one that asks the size of each message found; and the five by which a start reserves system bytes. What is
-/// written are the lines up to that call.
+/// 257; the one or two that read the setup; the one that asks the size of each message found; and the five by which a
+/// start reserves system bytes. What is written are the lines up to that call.
 ///
 /// Neither end has a store of its own that it must put something into, so no run is ended by a full one.
 ///
@@ -65,6 +67,8 @@ pub fn run<W: Sink>(
     spool_is_kept();
     messages_leave_in_step();
     overwrites_for_puts();
+    setup_is_kept();
+    kept_setup_holds();
     tables_are_looked_back_for();
     what_runs_is_looked_back_for();
     few_traces_run();
