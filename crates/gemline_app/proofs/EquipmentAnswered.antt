@@ -1,4 +1,4 @@
--- What an equipment answers whose plan and script mean something, over bytes that stand for a spool.
+-- What an equipment answers whose plan and script mean something, over bytes that stand for a spool and its setup.
 use Rattle.std.proofs.Common.{◌≡◌, ℕ, List, Option, Some, None, refl, sym, subst, inl, inr}
 use Rattle.command_words.specs.Asked.{Asked, Equipment}
 use Rattle.disk_base.specs.Story.{Story}
@@ -7,7 +7,7 @@ use Rattle.gl_base.specs.declared.side.Side.TheVariants as side
 use Rattle.equipment_tables.specs.declared.plan.EquipmentPlan.{EquipmentPlan}
 use Rattle.equipment_tables.specs.declared.plan.Plans.{Plans}
 use Rattle.spool_show.specs.Told.{DiskTold}
-use Rattle.spool_file.specs.File.{spool_break}
+use Rattle.equipment_node.specs.StartSetup.{start_break}
 use Rattle.end_run.specs.Counts.{Counts}
 use Rattle.end_run.specs.Script.{ScriptLine}
 use Rattle.end_run.specs.declared.ending.Ending.{Ending}
@@ -25,7 +25,7 @@ use Rattle.gemline_app.proofs.ReplayDue.{hindered}
 use Rattle.gemline_app.proofs.SpoolDue.{rose_of}
 
 module _ (source : SourceTold) (files : FilesTold) (disk : DiskTold) (link : LinkTold) (out : SinkTold) (s : Story)
-    (told : disk.before ≡ Some s) (sound : spool_break s.now.bytes ≡ None)
+    (told : disk.before ≡ Some s) (sound : start_break s.now.bytes ≡ None)
   where
     abbrev AnsweredSo : Outcome → Type 0
     AnsweredSo outcome = Answered source files disk link out outcome
@@ -45,7 +45,7 @@ module _ (source : SourceTold) (files : FilesTold) (disk : DiskTold) (link : Lin
     by_ending ending.NoMemory counts = inr tt
 
     by_start : (outcome : Outcome) → StartRefuses (bytes_told disk) outcome → AnsweredSo outcome
-    by_start (NotSpool at) refuses = absurd (no_break (spool_break s.now.bytes) at (refuses.1 s told).0 sound)
+    by_start (NotSpool at) refuses = absurd (no_break (start_break s.now.bytes) at (refuses.1 s told).0 sound)
     by_start NumbersSpent refuses = inl (inr (inr refl))
     by_start DiskFailed refuses = inr (rose_of refuses.0)
     by_start NoMemory refuses = inr tt

@@ -4,12 +4,13 @@ use Rattle.disk_base.specs.Story.{Story}
 use Rattle.gl_base.specs.Told.{FilesTold, SinkTold, SourceTold}
 use Rattle.gl_base.specs.declared.side.Side.TheVariants as side
 use Rattle.spool_show.specs.Told.{DiskTold}
-use Rattle.spool_file.specs.File.{SpoolFile, file_in, spool_break}
+use Rattle.spool_file.specs.File.{SpoolFile, file_in}
 use Rattle.trace_log.specs.Log.{Happening}
 use Rattle.message_end.specs.Core.{Step, at_first}
 use Rattle.message_end.specs.Core.Went.{Goes, Spent}
 use Rattle.equipment_tables.specs.declared.plan.EquipmentPlan.{EquipmentPlan}
 use Rattle.equipment_tables.specs.declared.plan.Plans.{Plans}
+use Rattle.equipment_node.specs.StartSetup.{start_break}
 use Rattle.tool_step.specs.Equipment.{EquipmentView, is_marked_out, started_on, starts, unstarted}
 use Rattle.end_run.specs.Counts.{Counts}
 use Rattle.end_run.specs.Script.{ScriptLine}
@@ -61,17 +62,17 @@ module _ (source : SourceTold) (files : FilesTold) (disk : DiskTold) (link : Lin
 
     -- ---- it didn't start
 
-    not_spool : (at : ℕ) → spool_break s.now.bytes ≡ Some at → BytesAskRun plan polls link lines s.now.bytes due
+    not_spool : (at : ℕ) → start_break s.now.bytes ≡ Some at → BytesAskRun plan polls link lines s.now.bytes due
         → ComesDue (NotSpool at)
     not_spool at breaks (inl (place, is, is_due)) =
         inl (ap (λ (n : ℕ). NotSpool n) (some_same at place (sym breaks ∙ is)) ∙ sym is_due)
     not_spool at breaks (inr (inl (sound, marked, is_due))) =
-        absurd (no_break (spool_break s.now.bytes) at breaks sound)
-    not_spool at breaks (inr (inr (sound, asks))) = absurd (no_break (spool_break s.now.bytes) at breaks sound)
+        absurd (no_break (start_break s.now.bytes) at breaks sound)
+    not_spool at breaks (inr (inr (sound, asks))) = absurd (no_break (start_break s.now.bytes) at breaks sound)
 
-    spent_out : spool_break s.now.bytes ≡ None → is_marked_out (file_in s.now.bytes).mark.value ≡ true
+    spent_out : start_break s.now.bytes ≡ None → is_marked_out (file_in s.now.bytes).mark.value ≡ true
         → BytesAskRun plan polls link lines s.now.bytes due → ComesDue NumbersSpent
-    spent_out sound marked (inl (place, is, is_due)) = absurd (no_break (spool_break s.now.bytes) place is sound)
+    spent_out sound marked (inl (place, is, is_due)) = absurd (no_break (start_break s.now.bytes) place is sound)
     spent_out sound marked (inr (inl (none, out_too, is_due))) = inl (sym is_due)
     spent_out sound marked (inr (inr (none, (start, goes, asks)))) =
         absurd (no_start plan (file_in s.now.bytes) start goes marked)
@@ -129,7 +130,7 @@ module _ (source : SourceTold) (files : FilesTold) (disk : DiskTold) (link : Lin
     ran_due : (outcome : Outcome) → WasRunOn plan lines polls (bytes_told disk) link out outcome
         → BytesAskRun plan polls link lines s.now.bytes due → ComesDue outcome
     ran_due outcome was (inl (place, is, is_due)) =
-        absurd (no_break (spool_break s.now.bytes) place is (was.sound s told))
+        absurd (no_break (start_break s.now.bytes) place is (was.sound s told))
     ran_due outcome was (inr (inl (none, marked, is_due))) =
         let over = was.ran s told in absurd (no_start plan (file_in s.now.bytes) over.start over.started marked)
     ran_due outcome was (inr (inr (none, (start, goes, asks)))) =

@@ -44,6 +44,7 @@ use Rattle.gemline_app.specs.Linked.{after_run, before_run}
 use Rattle.gemline_app.specs.LinkedEquipment.{Fixed, HoldsOne, IsGoing, IsKnown, IsLeftSo, LeavesDevice, device_by, device_of, disk_in, linked_view, outcome_of_start, spent_by, unstarted_disk}
 use Rattle.gemline_app.specs.declared.outcome.Outcome.{Outcome}
 use Rattle.gemline_app.proofs.SpoolDue.{rose_of}
+use Rattle.gemline_app.proofs.StartBreaks.{breaks-there}
 
 -- ---- its room, of which nothing is said
 
@@ -217,7 +218,7 @@ module _ {D : Type 0} (members : disk.Ghosts D) where
       → ((s : Story) → members.told old ≡ Some s → FindsFile s (Err why)) → StartHandsBack members old (Err why)
       → StartRefuses (bytes_told (disk_told members old (unstarted_disk why))) (outcome_of_start why)
   start_refuses plan old out (starting.NotSpool raw place) begins finds back =
-      (back.count, λ s told. ((begins s told).1.0, (begins s told).2))
+      (back.count, λ s told. (breaks-there s.now.bytes place (begins s told).1, (begins s told).2))
   start_refuses plan old out (starting.NumbersSpent spent) begins finds back =
       (back.count, λ s told. (finds s told, (begins s told).1, (begins s told).2))
   start_refuses plan old out (starting.DiskFailed spent) begins finds back =

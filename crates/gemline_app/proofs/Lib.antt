@@ -23,3 +23,4 @@ mod ReplayDue
 mod Replaying
 mod Running
 mod SpoolDue
+pub mod StartBreaks

@@ -19,6 +19,7 @@ use Rattle.tool_step.specs.Disk.{standing_in}
 use Rattle.tool_step.specs.End.{machine}
 use Rattle.tool_step.specs.Equipment.{EquipmentView, is_marked_out, starts}
 use Rattle.equipment_node.specs.Held.{HasMark, IsUntouched as HasUntouched}
+use Rattle.equipment_node.specs.StartSetup.{start_break}
 use Rattle.tool_step.specs.Left.{Holds, Leaves}
 use Rattle.tool_step.specs.Step.{deadline_of}
 use Rattle.end_run.specs.Counts.{Counted, Counts, counted_by}
@@ -115,28 +116,28 @@ counted_after disk link out =
 
 -- ---- from its disk on
 
--- the equipment has run; where its disk told its bytes, these stand for a spool, and the run is that over what they
--- hold
+-- the equipment has run; where its disk told its bytes, these stand for a spool and its setup, and the run is that over
+-- what they hold
 pub record WasRunOn (plan : EquipmentPlan) (lines : List ScriptLine) (polls : ℕ) (disk : BytesTold) (link : LinkTold)
     (out : SinkTold) (outcome : Outcome) : Type 0 where
   pub ended : Ending
   pub outcome_is : outcome ≡ outcome_of_ending ended
   pub counts : Counts (counted_before disk link out) (counted_after disk link out) (Some ended)
-  pub sound : (s : Story) → disk.before ≡ Some s → spool_break s.now.bytes ≡ None
+  pub sound : (s : Story) → disk.before ≡ Some s → start_break s.now.bytes ≡ None
   pub ran :
       (s : Story) → disk.before ≡ Some s → RanOver plan (file_in s.now.bytes) lines polls disk link out ended
 
--- why it didn't start, and what its disk holds then: the bytes stand for no spool, and are as they were; there are no
--- system bytes any more, and the file stands as one of version 2; the disk failed, and the bytes are as they were, or
+-- why it didn't start, and what its disk holds then: the bytes stand for no spool, or its setup is none, and they are as
+-- they were; there are no system bytes any more, and the file stands as one of version 2; the disk failed, and the bytes are as they were, or
 -- the file stands, as it was, or as one of version 2 with the old mark or the new one; memory ran out, and it stands so
 abbrev pub StartRefuses : BytesTold → Outcome → Type 0
 StartRefuses disk (NotSpool at) =
     (disk.faults_after ≡ disk.faults)
-    × ((s : Story) → disk.before ≡ Some s → (spool_break s.now.bytes ≡ Some at)
+    × ((s : Story) → disk.before ≡ Some s → (start_break s.now.bytes ≡ Some at)
     × ((t : Story) → disk.after ≡ Some t → HasUntouched s t))
 StartRefuses disk NumbersSpent =
     (disk.faults_after ≡ disk.faults)
-    × ((s : Story) → disk.before ≡ Some s → (spool_break s.now.bytes ≡ None)
+    × ((s : Story) → disk.before ≡ Some s → (start_break s.now.bytes ≡ None)
     × (is_marked_out (file_in s.now.bytes).mark.value ≡ true)
     × ((t : Story) → disk.after ≡ Some t → EachImage (λ image. StandsFor image (upgraded (file_in s.now.bytes))) t.now))
 StartRefuses disk DiskFailed =

@@ -21,6 +21,7 @@ use Rattle.trace_log.specs.Log.{Entry, Happening}
 use Rattle.message_end.specs.Core.{Step}
 use Rattle.message_end.specs.Core.Went.{Goes}
 use Rattle.equipment_tables.specs.declared.plan.EquipmentPlan.{EquipmentPlan}
+use Rattle.equipment_node.specs.StartSetup.{start_break}
 use Rattle.tool_step.specs.Equipment.{EquipmentView, is_marked_out, starts}
 use Rattle.end_run.specs.Pieces.{Piece as RunPiece}
 use Rattle.end_run.specs.Script.{ScriptLine}
@@ -170,12 +171,12 @@ abbrev pub HostAsks : ℕ → LinkTold → Plans → List ScriptLine → Outcome
 HostAsks polls link plans lines due = RunAsks (host_run plans.host lines polls) link due
 
 -- what they ask of the equipment over a file that a disk tells: the first place at which its bytes break; or they stand
--- for a spool, and no system bytes are left, or it runs
+-- for a spool and its setup, and no system bytes are left, or it runs
 abbrev pub BytesAskRun : EquipmentPlan → ℕ → LinkTold → List ScriptLine → List ℕ → Outcome → Type 0
 BytesAskRun plan polls link lines bytes due =
-    ((at : ℕ) × (spool_break bytes ≡ Some at) × (due ≡ NotSpool at))
-    ⊎ (((spool_break bytes ≡ None) × (is_marked_out (file_in bytes).mark.value ≡ true) × (due ≡ NumbersSpent))
-    ⊎ ((spool_break bytes ≡ None) × ((start : Step EquipmentView Happening)
+    ((at : ℕ) × (start_break bytes ≡ Some at) × (due ≡ NotSpool at))
+    ⊎ (((start_break bytes ≡ None) × (is_marked_out (file_in bytes).mark.value ≡ true) × (due ≡ NumbersSpent))
+    ⊎ ((start_break bytes ≡ None) × ((start : Step EquipmentView Happening)
     × (starts plan (file_in bytes) ≡ Goes start)
     × RunAsks (equipment_run start lines polls) link due)))
 
@@ -310,14 +311,14 @@ HostsAreAnswered =
     → IsGiven side.Host plan source files
     → IsAnswered run.outcome ⊎ Hinders source files disk link out run.outcome
 
--- so is such an equipment, over any link, where the disk tells bytes that stand for a spool
+-- so is such an equipment, over any link, where the disk tells bytes that stand for a spool and its setup
 abbrev pub EquipmentsAreAnswered : Type 0
 EquipmentsAreAnswered =
     (words : List (List ℕ)) (source : SourceTold) (files : FilesTold) (disk : DiskTold) (link : LinkTold)
     (out err : SinkTold) (status : ℕ) (plan address spool : List ℕ) (polls : ℕ)
     → (run : IsRun words source files disk link out err status)
     → asked_of words ≡ Some (Equipment plan address spool polls) → IsGiven side.Equipment plan source files
-    → (s : Story) → disk.before ≡ Some s → spool_break s.now.bytes ≡ None
+    → (s : Story) → disk.before ≡ Some s → start_break s.now.bytes ≡ None
     → IsAnswered run.outcome ⊎ Hinders source files disk link out run.outcome
 
 -- over objects that do not fail, `show` of a capture without a break ends with status 0 and its lines, but for want of

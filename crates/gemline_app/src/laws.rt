@@ -23,7 +23,7 @@ pub fn hosts_are_answered()
     ensures { HostsAreAnswered }
 {}
 
-/// So does an equipment, over a disk that tells bytes which stand for a spool, and any link.
+/// So does an equipment, over a disk that tells bytes which stand for a spool and its setup, and any link.
 pub fn equipments_are_answered()
     ensures { EquipmentsAreAnswered }
 {}

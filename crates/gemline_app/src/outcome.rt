@@ -56,7 +56,7 @@ pub enum Outcome {
     NumbersSpent,
     /// The disk failed.
     DiskFailed,
-    /// The bytes of the spool file stand for no list. They break there.
+    /// The bytes of the spool file stand for no list, or those of its area for no setup. They break there.
     NotSpool { at: u64 },
     /// The line of this number, from 1, is none of a script.
     BadScript { number: u32 },

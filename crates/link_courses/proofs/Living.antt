@@ -14,6 +14,7 @@ use Rattle.tool_law.specs.Laws.{EquipmentKeepsItsLaw}
 use Rattle.tool_reports.specs.Laws.{ReportsAreOfTheirEvents}
 use Rattle.tool_spool.specs.LeavesInStep.{MessagesLeaveInStep}
 use Rattle.tool_spool.specs.MadeRoom.{OverwritesForPuts}
+use Rattle.tool_spool.specs.SetupKept.{SetupIsKept}
 use Rattle.tool_spool.specs.SpoolKept.{SpoolIsKeptFrom}
 use Rattle.end_run.specs.Commands.{IsTaken, as_it_comes, behind_first, first_of}
 use Rattle.end_run.specs.Commands.Telling.{Says, Stops}
@@ -32,6 +33,7 @@ use Rattle.live_teller.specs.Came.{Came}
 use Rattle.live_teller.specs.Tellings.{ToolTelling, end_told, host_line, host_told, stands_behind, telling_of, tellings_of, told_by, told_with}
 use Rattle.tool_app.specs.Run.{most_polls}
 use Rattle.tool_app.specs.Tool.{BesideTold, CameLive, FileComes, ToolComes}
+use Rattle.gemline_app.proofs.StartBreaks.{spool-sound}
 use Rattle.link_courses.specs.Lawful.{GiveBytes}
 use Rattle.link_courses.specs.Noting.{AnyReply}
 use Rattle.link_courses.specs.Tool.{AreTaken, ToolRanLawfully, ToolsKeepTheirLaws}
@@ -134,7 +136,7 @@ brings-taken = record {
 -- ---- a run keeps the laws
 
 module _ (law : EquipmentKeepsItsLaw) (reports : ReportsAreOfTheirEvents) (spool : SpoolIsKeptFrom)
-    (leaves : MessagesLeaveInStep) (room : OverwritesForPuts) where
+    (leaves : MessagesLeaveInStep) (room : OverwritesForPuts) (set_up : SetupIsKept) where
   module _ (beside : BesideTold) (files : FilesTold) (disk : DiskTold) (link : LinkTold) (out : SinkTold) (s : Story)
       (told : disk.before ≡ Some s) (bytes : All (λ byte. byte < 256) s.now.bytes) (plan : List ℕ)
       (outcome : Outcome) where
@@ -155,8 +157,8 @@ module _ (law : EquipmentKeepsItsLaw) (reports : ReportsAreOfTheirEvents) (spool
           may = ran.may;
           taken = may-taken beside.coming ran.coming ran.may;
           ran =
-              sound-keeps law reports spool leaves room plans.equipment are.is.fits.equipment s.now.bytes
-              (came.was.sound s told) bytes as_it_comes ran.coming most_polls AnyReply tt
+              sound-keeps law reports spool leaves room set_up plans.equipment are.is.fits.equipment s.now.bytes
+              (spool-sound s.now.bytes (came.was.sound s told)) bytes as_it_comes ran.coming most_polls AnyReply tt
               (λ now coming. any-reply (first_of coming)) (λ answers. GiveBytes answers × AreTaken ran.coming)
               (λ start answers given.
               run-given linked_machine equipment_due as_it_comes side.Equipment ToolCommandFits AreTaken brings-taken

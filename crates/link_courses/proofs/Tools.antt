@@ -30,6 +30,7 @@ use Rattle.tool_law.specs.Tried.{AreTried}
 use Rattle.tool_reports.specs.Laws.{ReportsAreOfTheirEvents}
 use Rattle.tool_spool.specs.LeavesInStep.{MessagesLeaveInStep}
 use Rattle.tool_spool.specs.MadeRoom.{OverwritesForPuts}
+use Rattle.tool_spool.specs.SetupKept.{SetupIsKept}
 use Rattle.tool_spool.specs.SpoolKept.{MayHold, SpoolIsKeptFrom}
 use Rattle.tool_step.specs.End.{machine}
 use Rattle.tool_step.specs.Equipment.{EquipmentView, is_marked_out, started_on, starts, unstarted}
@@ -53,6 +54,7 @@ use Rattle.gemline_app.specs.LinkTold.{LinkTold}
 use Rattle.gemline_app.specs.Linked.{IsIdle, after_run, before_run}
 use Rattle.gemline_app.specs.Words.{script_limit}
 use Rattle.gemline_app.specs.declared.outcome.Outcome.{Outcome}
+use Rattle.gemline_app.proofs.StartBreaks.{spool-sound}
 use Rattle.link_courses.specs.Courses.{ComesTo, IsCourse, met_by, with_closing}
 use Rattle.link_courses.specs.Equipment.{EquipmentsKeepTheirLaws, KeepsLaws, RanInCourse, RanLawfully}
 use Rattle.link_courses.specs.Lawful.{GiveBytes, KeepsLawOfEnd}
@@ -126,7 +128,7 @@ start-is plan file start is =
 -- ---- a run keeps the laws
 
 module _ (law : EquipmentKeepsItsLaw) (reports : ReportsAreOfTheirEvents) (spool : SpoolIsKeptFrom)
-    (leaves : MessagesLeaveInStep) (room : OverwritesForPuts) where
+    (leaves : MessagesLeaveInStep) (room : OverwritesForPuts) (set_up : SetupIsKept) where
   module _ (plan : EquipmentPlan) (fits : EquipmentPlanFits plan) (file : SpoolFile) (some : 0 < file.slots)
       (most : file.slots < 2 ^ 16) (may : MayHold file) {Q : Type 0} (commands : Commands Q ToolCommand) (coming : Q)
       (polls : ℕ) where
@@ -145,7 +147,8 @@ module _ (law : EquipmentKeepsItsLaw) (reports : ReportsAreOfTheirEvents) (spool
           ComesTo run.ended run.end (course_of first machine (met_by run.acts))
           → KeepsLaws plan file (with_closing run.ended (notes_of (course_of first machine (met_by run.acts)))))
           (start-is plan file start started)
-          (closing-keeps reports spool leaves room plan fits file some most may (met_by run.acts) run.ended run.end)
+          (closing-keeps reports spool leaves room set_up plan fits file some most may (met_by run.acts) run.ended
+          run.end)
           (is-course commands coming polls start answers).comes
 
       kept-law : KeepsLaw (end_plan plan) (DidOf plan) ToolCommandFits (Goes start) machine
@@ -247,8 +250,8 @@ module _ (law : EquipmentKeepsItsLaw) (reports : ReportsAreOfTheirEvents) (spool
         let over = was.ran s told in
         let run : RanInCourse NoReply GiveBytes plans.equipment (file_in s.now.bytes)
         (λ start. equipment_run start lines polls) link out was.ended =
-        sound-keeps plans.equipment are.is.fits.equipment s.now.bytes (was.sound s told) bytes (by_script told_equipment)
-        lines polls NoReply refl (script-silent told_equipment tool-silent) GiveBytes
+        sound-keeps plans.equipment are.is.fits.equipment s.now.bytes (spool-sound s.now.bytes (was.sound s told)) bytes
+        (by_script told_equipment) lines polls NoReply refl (script-silent told_equipment tool-silent) GiveBytes
         (λ start answers given.
         run-given linked_machine equipment_due (by_script told_equipment) side.Equipment ToolCommandFits
         (AreTold told_equipment ToolCommandFits) (script-brings told_equipment ToolCommandFits) start lines polls answers

@@ -17,6 +17,7 @@ use Rattle.trace_log.specs.Text.{text_of}
 use Rattle.trace_log.specs.declared.commands.ToolCommand.{ToolCommand}
 use Rattle.equipment_tables.specs.declared.plan.EquipmentPlan.{EquipmentPlan}
 use Rattle.equipment_tables.specs.declared.plan.Plans.{Plans}
+use Rattle.setup_law.specs.Setup.{KeepsSetup}
 use Rattle.spool_law.specs.Shelf.{KeepsSpoolFrom}
 use Rattle.spool_show.specs.Told.{DiskTold}
 use Rattle.spool_file.specs.File.{SpoolFile, file_in}
@@ -28,6 +29,7 @@ use Rattle.tool_spool.specs.MadeRoom.{MakesRoomForPuts}
 use Rattle.tool_spool.specs.SpoolKept.{policy_of}
 use Rattle.tool_step.specs.End.{machine}
 use Rattle.tool_step.specs.Equipment.{EquipmentView, starts}
+use Rattle.tool_step.specs.Setup.{setup_in}
 use Rattle.tool_step.specs.Step.{end_plan}
 use Rattle.end_pair.specs.Noted.{noted_by}
 use Rattle.end_run.specs.Acts.{lines_of, log_of}
@@ -48,13 +50,14 @@ use Rattle.link_courses.specs.Noting.{HasDone, NoReply}
 
 -- what holds of all that the equipment has noted over a file that held this before, as of a replay: each report and
 -- each answer holds the values of its event or of that moment, and each command has its note; the start finds what the
--- file held, what is stored goes behind that, and what leaves has its cause, in its step; and the oldest message is
--- overwritten for a put alone
+-- file held, what is stored goes behind that, and what leaves has its cause, in its step; the oldest message is
+-- overwritten for a put alone; and the start carries out the setup that the file held, and what is changed of it is kept
 pub record KeepsLaws (plan : EquipmentPlan) (file : SpoolFile) (notes : List Happening) : Type 0 where
   pub reported : Reported plan notes
   pub spooled : KeepsSpoolFrom (policy_of plan file.slots) (found_in file.list) notes
   pub leaves : LeaveInTheirSteps (policy_of plan file.slots) notes
   pub room : MakesRoomForPuts notes
+  pub set_up : KeepsSetup plan (setup_in file) notes
 
 -- it ran so from its start over such a file: what it has noted of its course, and what of that its output has, with
 -- such replies; and that keeps the laws. Where it is given what it takes, that is of doings that keep the law of an

@@ -10,7 +10,7 @@ ghost use Rattle.link_courses.specs.Worked.{TellsItsCourse};
 use end_run::LinkedEnd;
 use tool_law::equipment_keeps_the_law;
 use tool_reports::reports_are_of_their_events;
-use tool_spool::{messages_leave_in_step, overwrites_for_puts, spool_is_kept};
+use tool_spool::{messages_leave_in_step, overwrites_for_puts, setup_is_kept, spool_is_kept};
 
 /// All that an end notes in a run over a link, whatever commands it, is what a course of it brings, of the steps that
 /// the run makes and of nothing else; where the peer closes the connection, that is noted behind them.
@@ -31,8 +31,9 @@ pub fn worked_courses()
 {}
 
 /// Each run of `equipment` over a disk that tells its bytes, whatever the link and the output do, has noted what a
-/// course of the equipment brings over what the file held, and what is proved of the reports and of the spool of all
-/// courses holds of it, as of a replay. Where the link gives bytes it is of doings that keep the law of an end.
+/// course of the equipment brings over what the file held, and what is proved of the reports, of the spool and of the
+/// setup of all courses holds of it, as of a replay. Where the link gives bytes it is of doings that keep the law of an
+/// end.
 pub fn equipments_keep_their_laws()
     ensures { EquipmentsKeepTheirLaws }
 {
@@ -41,6 +42,7 @@ pub fn equipments_keep_their_laws()
     spool_is_kept();
     messages_leave_in_step();
     overwrites_for_puts();
+    setup_is_kept();
 }
 
 /// Each run of `tool` over a disk that tells its bytes, whatever link and output do and whatever comes beside the link,
@@ -54,6 +56,7 @@ pub fn tools_keep_their_laws()
     spool_is_kept();
     messages_leave_in_step();
     overwrites_for_puts();
+    setup_is_kept();
 }
 
 /// Each run of `host` has noted what a course of the host brings; where the link gives bytes, that is of doings that

@@ -12,9 +12,9 @@ use std::test::Fail;
 
 /// A link that gives these characters, all at moment 0, and then is closed.
 #[derive(Drop)]
-struct Peer<'a> {
-    left: &'a [u8],
-    connections: Connections,
+pub(crate) struct Peer<'a> {
+    pub(crate) left: &'a [u8],
+    pub(crate) connections: Connections,
 }
 
 impl<'a> Link for Peer<'a> {
@@ -47,10 +47,10 @@ impl<'a> Link for Peer<'a> {
 }
 
 /// A block of the host: its stream, W, function, E bit and system bytes; and its text.
-type Sent = (u8, bool, u8, bool, u32, &'static [u8]);
+pub(crate) type Sent = (u8, bool, u8, bool, u32, &'static [u8]);
 
 /// ENQ, and the frame of a block.
-fn push(characters: &mut Row<u8>, sent: &Sent) -> Result<(), NoMemory> {
+pub(crate) fn push(characters: &mut Row<u8>, sent: &Sent) -> Result<(), NoMemory> {
     let (stream, wait, function, last, system, text) = *sent;
     let header = Header {
         from_equipment: false,
@@ -69,7 +69,8 @@ fn push(characters: &mut Row<u8>, sent: &Sent) -> Result<(), NoMemory> {
     }
 }
 
-const ESTABLISHED: Sent = (1, false, 14, true, 0, &[1, 2, 0x21, 1, 0, 1, 0]);
+/// The answer to the tool's first S1F13.
+pub(crate) const ESTABLISHED: Sent = (1, false, 14, true, 0, &[1, 2, 0x21, 1, 0, 1, 0]);
 
 const ASKS: Sent = (1, true, 1, true, 99, b"");
 

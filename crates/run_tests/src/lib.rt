@@ -19,6 +19,8 @@ mod played_program;
 #[cfg(test)]
 mod replay_and_make;
 #[cfg(test)]
+mod setups;
+#[cfg(test)]
 mod show_and_spell;
 #[cfg(test)]
 mod spool_files;

@@ -353,7 +353,7 @@ pub(crate) const AREA: u64 = 524_288;
 pub(crate) fn disk_with(alloc: Global, bytes: &[&[u8]; 2], area: u64) -> Option<MemDisk> {
     let [front, slot] = *bytes;
     let size = 16_384_u64.saturating_add(area);
-    let Ok(mut disk) = MemDisk::new(alloc, size, 100, size) else {
+    let Ok(mut disk) = MemDisk::new(alloc, size, 400, size) else {
         return None;
     };
     if disk.size() < 16384 || front.len() > 4096 || slot.len() > 4096 {

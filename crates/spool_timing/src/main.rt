@@ -1,8 +1,11 @@
-//! Puts messages into a spool file, purges it, or recovers it again and again, so that a script of bench/ can time it.
+//! Puts messages into a spool file, purges it, keeps a setup there, or recovers it again and again, so that a script of
+//! bench/ can time it.
 #![tactic(auto)]
 
 use disk_base::{Disk, DiskAnswer};
 use file_disk::FileDisk;
+use gl_base::Row;
+use setup_store::{keep, load};
 use spool_slots::{Raw, Spool, Stored};
 use std::alloc::Global;
 use std::process::ExitCode;
@@ -24,6 +27,7 @@ fn main(rt: HostRuntime) -> io::Result<ExitCode> {
     let mut disk = FileDisk::new(&rt);
     let messages = match work.as_str() {
         "put" => put_again(rt.alloc(), &mut disk, file.as_str(), turns, length),
+        "keep" => keep_again(rt.alloc(), &mut disk, file.as_str(), turns, length),
         "purge" => purge(&mut disk, file.as_str()),
         _ => recover_again(&mut disk, file.as_str(), turns),
     };
@@ -61,6 +65,40 @@ fn with_message<D: Disk + Drop>(spool: Spool<D>, body: &[u8]) -> Option<Spool<D>
     };
     match spool.stage(&message) {
         Ok(staged) => staged.seal().ok(),
+        Err(_) => None,
+    }
+}
+
+// Finds what is kept in the spool file of this name, and keeps a list of so many bytes there, as often, and says how many
+// bytes it then keeps.
+fn keep_again<D: Disk>(
+    alloc: Global,
+    disk: &mut D,
+    file: &str,
+    turns: u32,
+    length: u32,
+) -> Option<u32> {
+    let list = list_of(alloc, length.saturating_sub(6))?;
+    let mut spool = recovered(disk, file)?;
+    for _ in 0..turns {
+        spool = kept(alloc, spool, list.as_slice())?;
+    }
+    u32::try_from(load(alloc, &mut spool).ok()?.len()).ok()
+}
+
+// A list of one S2F43 with a text of this length.
+fn list_of(alloc: Global, length: u32) -> Option<Row<u8>> {
+    let text = vec![in alloc; 0; length as usize].ok()?;
+    let mut list = Row::of(alloc, &[2, 43]).ok()?;
+    list.extend(&length.to_be_bytes()).ok()?;
+    list.extend(text.as_slice()).ok()?;
+    Some(list)
+}
+
+// With this list kept behind the one that is found.
+fn kept<D: Disk + Drop>(alloc: Global, mut spool: Spool<D>, list: &[u8]) -> Option<Spool<D>> {
+    match load(alloc, &mut spool) {
+        Ok(_) => keep(spool, list).ok(),
         Err(_) => None,
     }
 }

@@ -5,7 +5,8 @@ use Rattle.disk_base.specs.Story.{Story}
 use Rattle.gl_base.specs.Told.{SinkTold}
 use Rattle.gl_base.specs.declared.link.LinkIn.{LinkIn}
 use Rattle.gl_base.specs.declared.side.Side.TheVariants as side
-use Rattle.spool_file.specs.File.{SpoolFile, file_in, spool_break}
+use Rattle.equipment_node.specs.StartSetup.{start_break}
+use Rattle.spool_file.specs.File.{SpoolFile, file_in}
 use Rattle.trace_log.specs.Log.{Happening}
 use Rattle.trace_log.specs.declared.commands.ToolCommand.{ToolCommand}
 use Rattle.message_end.specs.Core.{Step}
@@ -60,9 +61,10 @@ pub record RanLive (plan : EquipmentPlan) (file : SpoolFile) (came : Option (Lis
   pub started : starts plan file ≡ Goes start
   pub ran : RunsLive start came disk.after link out ended
 
--- it has run; where its disk told its bytes, these stand for a spool, and the run is that over what they hold
+-- it has run; where its disk told its bytes, these stand for a spool and its setup, and the run is that over what they
+-- hold
 pub record WasLive (plan : EquipmentPlan) (came : Option (List Came)) (disk : BytesTold) (link : LinkTold)
     (out : SinkTold) (ended : Ending) : Type 0 where
   pub counts : Counts (counted_before disk link out) (counted_after disk link out) (Some ended)
-  pub sound : (s : Story) → disk.before ≡ Some s → spool_break s.now.bytes ≡ None
+  pub sound : (s : Story) → disk.before ≡ Some s → start_break s.now.bytes ≡ None
   pub ran : (s : Story) → disk.before ≡ Some s → RanLive plan (file_in s.now.bytes) came disk link out ended
