@@ -44,7 +44,7 @@ use Rattle.host_node.specs.Spelled.{spelled_code, spelled_established, spelled_n
 
 -- ---- commands that call no line
 
-none-quiet : IsQuiet {K = Kind} []
+pub none-quiet : IsQuiet {K = Kind} []
 none-quiet = record { calls = tt; may = tt }
 
 -- what ends together
@@ -136,7 +136,7 @@ module _ (plan : HostPlan) (base : ℕ) where
   abbrev AreQuiet : List (Duty Kind) → Type 0
   AreQuiet duties = AreQuietDuties {S = HostOwn} (end_plan plan) base (HasPlan plan) duties
 
-  fixed-quiet : (own : HostOwn) (commands : List (Command Kind)) → HasPlan plan own → IsQuiet commands → Quiet
+  pub fixed-quiet : (own : HostOwn) (commands : List (Command Kind)) → HasPlan plan own → IsQuiet commands → Quiet
       (fixed_turn own commands)
   fixed-quiet own commands sound is = record { quiet = ((λ e core. is), tt); sound = sound }
 
@@ -180,13 +180,13 @@ module _ (plan : HostPlan) (base : ℕ) where
     sound = sound;
   }
 
-  breaks-quiet : (own : HostOwn) (e : EndView Kind) (failed : Option Header) → HasPlan plan own → Quiet
+  pub breaks-quiet : (own : HostOwn) (e : EndView Kind) (failed : Option Header) → HasPlan plan own → Quiet
       (breaks own e failed)
   breaks-quiet own e None sound = fixed-quiet own [] sound none-quiet
   breaks-quiet own e (Some header) sound =
       ends-quiet own (failed_comms own.comms) (ends_all e (Some header)) sound (all-quiet e (Some header))
 
-  late-due : (now : ℕ) → AreDue now (late_duties now)
+  pub late-due : (now : ℕ) → AreDue now (late_duties now)
   unfolding late_duties
   late-due now =
       both-due now (replicate 16 (drops now)) (replicate 64 (expires now))
@@ -249,7 +249,7 @@ module _ (plan : HostPlan) (base : ℕ) where
   judges-quiet own e header flow.Duplicate sound = fixed-quiet own [] sound none-quiet
   judges-quiet own e header (flow.Foreign address) sound = fixed-quiet own [] sound none-quiet
 
-  brings-quiet : (own : HostOwn) (e : EndView Kind) (brought : Took) → HasPlan plan own → Quiet (brings own e brought)
+  pub brings-quiet : (own : HostOwn) (e : EndView Kind) (brought : Took) → HasPlan plan own → Quiet (brings own e brought)
   brings-quiet own e took.Nothing sound = fixed-quiet own [] sound none-quiet
   brings-quiet own e (took.Failed header) sound = breaks-quiet own e (Some header) sound
   brings-quiet own e (took.Came header came) sound = judges-quiet own e header came sound
@@ -292,7 +292,7 @@ module _ (plan : HostPlan) (base : ℕ) where
           short : length body ≤ longest_text
           short = grind (arith, nat_tests, e, own_most)
 
-  obeys-quiet :
+  pub obeys-quiet :
       (command : HostCommand) (own : HostOwn) (e : EndView Kind) → HostPlanFits plan → HasPlan plan own
       → HostCommandFits command → Quiet (obeys command own e)
   obeys-quiet (told.Send stream function wait body) own e fits sound may =

@@ -1,0 +1,11 @@
+pub mod Amid
+pub mod Causes
+pub mod End
+pub mod Held
+pub mod Journal
+pub mod Law
+pub mod Left
+pub mod Starting
+pub mod Stepping
+pub mod Worked
+pub mod Works
