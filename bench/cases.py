@@ -2,8 +2,8 @@
 what must stand in its spool file behind a run that failed.
 
 An end of a line runs with the other end, which nothing fails in. The tool finds two messages in a file of three slots
-and stores two alarms, of which the second overwrites a message. The host asks for one message, and then for a purge of
-the rest; the last alarm goes to it at once.
+and stores two alarms, of which the second overwrites a message. The host asks for one message, enables all events, which
+the tool keeps, and asks then for a purge of the rest; the last alarm goes to it at once.
 """
 import os
 import subprocess
@@ -15,6 +15,8 @@ from reading import Plan
 
 EXAMPLES = os.path.join(os.path.dirname(os.path.abspath(__file__)), "..", "examples")
 LONGEST = 60
+# How many bytes a copy of a setup has, and where its cell stands.
+COPY, CELL = 262144, 47
 PLAN = b"""[line]
 t1 = 10000
 [equipment]
@@ -28,7 +30,7 @@ alid = 8
 text = "DOOR"
 """
 TOOL = b"500 alarm 7 set\n500 alarm 8 set\n3000 alarm 7 clear\n4500 stop\n"
-HOST = b"1000 send S6F23 W <U1 0>\n2000 send S6F23 W <U1 1>\n9000 stop\n"
+HOST = b"1000 send S6F23 W <U1 0>\n1500 send S2F37 W <L <BOOLEAN 01> <L>>\n2000 send S6F23 W <U1 1>\n9000 stop\n"
 # The texts of the statuses, of those that come where something fails.
 TEXTS = {66: "66 file {}", 68: "68 read", 69: "69 link", 71: "71 memory", 73: "73 write", 74: "74 disk"}
 
@@ -55,7 +57,8 @@ def replays(name, plan, schedule, status=0):
 BLOCKS = [(1, 1), (2, 1), (2, 1), (1, 2), (2, 2), (3, 2), *[(system, 1) for system in range(9, 26)]]
 SHOWN = b"".join(frame(6, 11, system, b"A", number, number == 2) for system, number in BLOCKS)
 SPOOL, LISTED = example("spools/two-messages.spool"), example("spools/two-messages.out").decode().splitlines()
-EQUIPMENT = Case("equipment", ["equipment", "plan", "", "spool"], TOOL, plan=PLAN, spool=SPOOL)
+# The tool's file has an area for a setup.
+EQUIPMENT = Case("equipment", ["equipment", "plan", "", "spool"], TOOL, plan=PLAN, spool=SPOOL + bytes(2 * COPY))
 OTHER_END = Case("host", ["host", "plan", ""], HOST, plan=PLAN)
 CASES = [
     Case("show", ["show"], SHOWN),
@@ -195,6 +198,17 @@ def mark_of(listed):
     return int(listed[0].split("mark=")[1].split()[0])
 
 
+def kept_in(file):
+    """How many requests a spool file keeps."""
+    gate = file[CELL + 16] % 2
+    number, length = (int.from_bytes(file[at:at + 4], "big") for at in (CELL + 8 * gate, CELL + 8 * gate + 4))
+    begin, count = len(file) - (2 - number) * COPY, 0
+    kept = file[begin:begin + length]
+    while kept:
+        kept, count = kept[6 + int.from_bytes(kept[2:6], "big"):], count + 1
+    return count
+
+
 class Judge:
     """Says what is wrong with a run in which something failed, beside one in which nothing did."""
 
@@ -256,7 +270,10 @@ class Judge:
             lists = self.story.lists[story.told:story.told + 3]
         if ran.listed[1:] not in lists:
             wrong.append(f"the spool file has {ran.listed[1:]}, which is none of {lists}")
-        if status in (66, 68) and ran.left["spool"] != SPOOL:
+        told, done = ran.out.count(" E kept "), self.whole.out.count(" E kept ")
+        if kept_in(ran.left["spool"]) not in (range(told, done + 1) if status in (71, 73, 74) else [told]):
+            wrong.append(f"{kept_in(ran.left['spool'])} requests are kept, by {told} lines")
+        if status in (66, 68) and ran.left["spool"] != self.case.files["spool"]:
             wrong.append("the spool file has changed")
         is_started = lines_of(self.case, ran.out)[:1] == ["E start len=2 base=8192\n"]
         if mark_of(ran.listed) not in ([12288] if is_started else [8192, 12288]):

@@ -22,12 +22,15 @@ TABLES = ["S2F33 W <L <U4 1> <L <L <U4 11> <L <U4 1>>>>>", "S2F33 W <L <U4 1> <L
           "S2F33 W <L <U4 1> <L <L <U4 10> <L>> <L <U4 13> <L <U4 99>>>>>",
           "S2F33 <L <U4 1> <L <L <U4 14> <L <U4 1>>>>>", "S2F33 <L <U4 1> <L <L <U4 10> <L <U4 2>>>>>",
           "S2F35 <L <U4 2> <L <L <U4 2> <L <U4 14>>>>>", "S2F35 <L <U4 2> <L <L <U4 2> <L>>>>",
-          "S2F37 W <L <BOOLEAN 00> <L <U4 1>>>", "S2F37 W <L <BOOLEAN 01> <L <U4 2>>>",
-          "S2F37 W <L <BOOLEAN 00> <L <U4 9>>>"]
+          "S2F35 W <L <U4 0> <L>>", "S2F37 W <L <BOOLEAN 00> <L <U4 1>>>", "S2F37 W <L <BOOLEAN 01> <L <U4 2>>>",
+          "S2F37 <L <BOOLEAN 01> <L <U4 2> <U4 1>>>", "S2F37 W <L <BOOLEAN 00> <L <U4 9>>>",
+          "S5F3 W <L <B 00> <U4 7>>", "S5F3 W <L <B 80> <U1 7>>", "S5F3 <L <B 80> <U4>>", "S5F3 W <L <B 80> <U4 9>>"]
 SPOOLING = ["S2F43 W <L <L <U1 6> <L>> <L <U1 5> <L>>>", "S2F43 W <L>",
             "S2F43 W <L <L <U1 6> <L <U1 11>>> <L <U1 10> <L <U1 1>>>>",
             *[f"S2F15 W <L <L <U4 {constant}> <BOOLEAN {value}>>>" for constant in (2, 3) for value in ("00", "01")],
-            *[f"S2F15 W <L <L <U4 4> <U4 {most}>>>" for most in (0, 1, 2)]]
+            *[f"S2F15 W <L <L <U4 4> <U4 {most}>>>" for most in (0, 1, 2)],
+            "S2F15 W <L>", "S2F15 <L <L <U4 4> <U4 0>> <L <U4 3> <BOOLEAN 01>>>",
+            "S2F15 W <L <L <U4 3> <U4 0>> <L <U4 9> <U4 1>>>", "S2F43 W <L <L <U1 5> <L <U1 3>>>>"]
 OTHERS = ["S1F1 W -", "S1F13 W -", "S1F3 W <L>", "S1F11 -", "S3F1 W -", "S6F15 W <U4 1>", "S6F19 W <U4 10>",
           'S10F5 W <L <B 00> <L <A "yes"> <A "no">>>', f'S10F5 W <L <B 00> <L <A "{"y" * 300}"> <A "no">>>']
 # What S2F23 may ask for, and what is wrong in some.
@@ -193,4 +196,4 @@ class Drawing:
         lines = list(pick(ways)())
         call = pick([1, 1, 2, 2, 3, 3, 4, 4, 5, 5, 6, 7, 8, 10, 12, 15])
         lines.insert(rng.randrange(len(lines)), f"cut {call} {choice}")
-        return lines + pick([["settle", *self.reported], ["settle", *self.reported], ["settle"], []])
+        return lines + pick([["settle", *self.reported], ["settle"], ["settle"], []])

@@ -5,7 +5,7 @@ number is at least the floor. A message takes as many slots as its body needs, a
 nothing that stands, but may be open still, with numbers below the floor; then they are closed before anything is
 written there. Its first slot's gate lets it stand. A message leaves by that gate, and all of them at once by the floor,
 which becomes the next number. Mark and floor are cells: two copies of a number, and a gate whose lowest bit names the
-one that counts.
+one that counts. So is the setup, whose value names a list that was written and synced before.
 
 So a work is a row of updates, and an update changes the file by gates that one sync settles. The calls in front of
 these change nothing, and at a gate's write or the sync the bytes that the disk keeps decide.
@@ -69,8 +69,8 @@ def is_closed(byte):
 
 
 class Cell:
-    def __init__(self):
-        self.value, self.parity = 0, 0
+    def __init__(self, value):
+        self.value, self.parity = value, 0
 
     def to(self, value):
         """A read of its gate, the other copy and a sync; then the gate."""
@@ -83,7 +83,7 @@ class Cell:
 
 class File:
     def __init__(self, slots):
-        self.mark, self.floor, self.next = Cell(), Cell(), 0
+        self.mark, self.floor, self.setup, self.next = Cell(0), Cell(0), Cell([]), 0
         self.open = {}                              # the open slots, and the numbers of their messages
         self.sizes = {}                             # how many slots messages take, by their numbers
         self.slots = slots
@@ -99,14 +99,16 @@ class File:
         standing = self.standing()
         self.next = standing[-1] + self.sizes[standing[-1]] if standing else self.floor.value
 
-    def updates(self, work, size):
-        """What a work does. A message that is put takes so many slots."""
+    def updates(self, work, what):
+        """What a work does: a put of a message that takes so many slots, a keep of this setup, or another one."""
         standing = self.standing()
         if work == "put":
-            slots = [number % self.slots for number in range(self.next, self.next + size)]
+            slots = [number % self.slots for number in range(self.next, self.next + what)]
             stale = [self.closing(slot) for slot in slots if slot in self.open]
-            put = size + 1, Gate(slots[0], is_open, lambda: self.put(size))
-            return [Update(size, *stale), Update(*put)] if stale else [Update(size + put[0], put[1])]
+            put = what + 1, Gate(slots[0], is_open, lambda: self.put(what))
+            return [Update(what, *stale), Update(*put)] if stale else [Update(what + put[0], put[1])]
+        if work == "keep":
+            return [Update(3 if what else 1), self.setup.to(what)]
         if work == "drop":
             return [Update(1, self.closing(standing[0] % self.slots))]
         if work == "purge":
@@ -123,16 +125,16 @@ class File:
         self.sizes[self.next] = size
         self.next += size
 
-    def carry_out(self, work, size=1):
+    def carry_out(self, work, what=None):
         """Carries it out, and answers how many calls that takes."""
-        updates = self.updates(work, size)
+        updates = self.updates(work, what)
         for update in updates:
             update.carry_out()
         return sum(update.calls for update in updates)
 
-    def lose(self, work, call, cut, size=1):
+    def lose(self, work, what, call, cut):
         """Power goes at this call of the work. Answers whether the work has such a call."""
-        for update in self.updates(work, size):
+        for update in self.updates(work, what):
             if call <= update.calls:
                 update.lose(call, cut)
                 return True

@@ -16,20 +16,23 @@
 5. S2F24 has the code that is due to its S2F23. An S6F1 has the values that its variables had at the samples of a trace
    that the host has asked for and that ran. Each one that is due comes, in its step and in order, and no other comes
    (tracing.py).
+6. A request of the host that changes the setup is kept where it is accepted, right behind its `rx` and before its
+   answer, and only there. A start finds what was kept, the request that was being kept last or not, as the call of the
+   disk at which power went decides, and has the tables that this makes of the plan's (setting.py). So an event or an
+   alarm makes a message only where it is enabled, and the spool takes what its rule names.
 
 A trace has no values of `tool set` and no texts of terminals: they are taken from the schedule. It has no body behind
 `storing`: that is the message which was made just before, or one of those that were open when the communication was
 lost, in the order in which they began. Of a list that a start finds it has the length; what stands there is seen when
 it leaves. Nor does it say whether a request without W was accepted, which is judged here.
 """
-import copy
 import tomllib
 
 from keeping import Cut, File, size_of
+from setting import CHANGES, ENABLE_SPOOL, OVERWRITE, Tables, is_accepted, kept_behind
 from spelling import headed, leave_for, list_of, parsed, spelled, u4
 from tracing import MOVES, Tracing, moments_of
 
-DONE = "210100"
 # The longest text that the spool takes.
 MOST_STORED = 1 << 20
 MOST = (1 << 32) - 1
@@ -42,18 +45,26 @@ class Plan:
         self.max_body = plan.get("line", {}).get("max_body", 1 << 20)
         self.control = tool.get("control", "remote").upper()
         self.slots = tool.get("slots", 16)
-        self.overwrites = tool.get("overwrite", True)
         self.variables = {row["vid"]: spelled(row["value"]) for row in plan.get("variable", [])}
         self.events = {row["ceid"] for row in plan.get("event", [])}
         self.constants = {1: (1, 120), 2: (0, 1), 3: (0, 1), 4: (0, MOST)}
+        self.first_constants = {1: tool.get("delay", 10), 2: int(tool.get("enable_spool", True)),
+                                3: int(tool.get("overwrite", True)), 4: tool.get("max_transmit", 0)}
         for row in plan.get("constant", []):
             self.constants[row["ecid"]] = (row.get("min", 0), row.get("max", MOST))
+            self.first_constants[row["ecid"]] = row["value"]
         self.alarms = {row["alid"]: (row.get("category", 0), row.get("text", "")) for row in plan.get("alarm", [])}
+        self.enabled_alarms = {row["alid"] for row in plan.get("alarm", []) if row.get("enabled", True)}
+        self.spooled = tool.get("spooled", ["S5F1", "S6F11", "S10F1"])
 
     def alarm_body(self, alarm, state):
         category, text = self.alarms[alarm]
         code = headed("B", 1, bytes([category + (0x80 if state == "set" else 0)]))
         return list_of([code, u4(alarm), headed("A", len(text), text.encode())])
+
+    def least_and_most(self, constant):
+        """The range of a constant; an empty one where there is none of this number."""
+        return self.constants.get(constant, (1, 0))
 
 
 class Commands:
@@ -87,59 +98,6 @@ def starts_of(plan, schedule):
     return starts
 
 
-class Tables:
-    """Values, reports, links and the constant OverWriteSpool, as one start of the tool has them now."""
-
-    def __init__(self, plan):
-        self.plan = plan
-        self.values = {variable: value for variable, (_, value) in plan.variables.items()}
-        self.overwrites, self.reports, self.links = plan.overwrites, {}, {}
-
-    def after(self, request, body):
-        """The tables behind S2F15, S2F33 or S2F35, and these where it is refused. Want of room isn't known here."""
-        new, told = copy.copy(self), parsed(body)
-        if request == "S2F15":
-            if not all(self.can_be(*pair) for pair in told):
-                return self
-            new.overwrites = dict(told).get(3, self.overwrites)
-            return new
-        new.reports, new.links = dict(self.reports), dict(self.links)
-        change = new.define if request == "S2F33" else new.link
-        if not all(change(*pair) for pair in told[1]):
-            return self
-        if request == "S2F33" and not told[1]:
-            new.reports, new.links = {}, {}
-        return new
-
-    def can_be(self, constant, value):
-        least, most = self.plan.constants.get(constant, (1, 0))
-        return least <= value <= most
-
-    def define(self, report, variables):
-        """Whether that may be."""
-        if variables:
-            may = report not in self.reports and set(variables) <= set(self.values)
-            self.reports[report] = variables
-            return may
-        self.reports.pop(report, None)
-        for event, linked in self.links.items():
-            self.links[event] = [one for one in linked if one != report]
-        return True
-
-    def link(self, event, reports):
-        """Whether that may be."""
-        may = not reports or not self.links.get(event) and set(reports) <= set(self.reports)
-        self.links[event] = reports
-        return may and event in self.plan.events
-
-    def report(self, report):
-        return list_of([self.values[variable] for variable in self.reports.get(report, [])])
-
-    def event(self, event, number):
-        reports = [list_of([u4(report), self.report(report)]) for report in self.links.get(event, [])]
-        return list_of([u4(number), u4(event), list_of(reports)])
-
-
 class Message:
     """A message that the tool has made. Its body is None where the reading has lost it."""
 
@@ -157,7 +115,8 @@ class Put:
 
 ONLINE = ("LOCAL", "REMOTE")
 UNLOADED = Message("unloaded", None)
-CHANGES = ("S2F15", "S2F33", "S2F35")
+# Of an event or an alarm that makes a message, the next line of the tool.
+MADE = ("sent", "dropped", "full", "toolong", "discarded", "storing", "leaving")
 # How many system bytes a start sets aside, and how many are left where it sets as many aside again.
 ASIDE, FEW = 4096, 128
 
@@ -176,6 +135,8 @@ class Reading:
         self.received = {"E": set(), "H": set()}    # system bytes and kind, of one start
         self.puts, self.standing = [], []           # all that were stored; those in the spool
         self.moving = None                          # the put that is being stored or is leaving
+        self.keeping = None                         # the setup that is being kept
+        self.is_guessed = True                      # whether a start tells what power left
         self.tries, self.taken = {}, []             # system bytes to their put; what the host took, without repeats
         self.begin()
 
@@ -183,11 +144,13 @@ class Reading:
         """A new start of the tool: all but the spool is gone."""
         self.received["E"] = set()
         self.commands = self.starts[min(self.losses, len(self.starts) - 1)]
-        self.tables = Tables(self.plan)
+        self.tables = None                          # until it is known what is kept
+        self.refusals = 0                           # how many kept requests are still to be told as refused
         self.tracing = Tracing(self.plan)
         self.calls = None                           # of the disk, in an event in which power goes
         self.aside, self.is_short = ASIDE, False    # system bytes; whether the next step sets more aside
         self.is_communicating, self.is_online = False, self.plan.control in ONLINE
+        self.is_active = bool(self.standing)        # whether it spools
         self.unanswered = set()                     # the system bytes of what waits for a reply
         self.base = self.drawn = 0                  # the first system bytes, and those behind the last
         self.events = {}                            # their messages, by their bodies
@@ -196,6 +159,7 @@ class Reading:
         self.made = None                            # what this step has made
         self.used = []                              # by how many slots, before each that left for the next one
         self.request = self.silent = self.last_received = None
+        self.owes = False                           # whether the line before is of what makes a message
         self.before = []
 
     def breaks(self, why):
@@ -236,6 +200,8 @@ class Reading:
                 self.used = []
             if side == "E" and self.silent:
                 self.judge(kind)
+            if side == "E":
+                self.settle(kind, words)
             if side == "E" and self.is_short and kind not in ("power", "start"):
                 self.set_aside()
             try:
@@ -257,7 +223,25 @@ class Reading:
         self.now = now
         while self.moments and self.moments[-1] <= now:
             self.breaks_by(self.tracing.missing())
-            self.tracing.sample(self.moments.pop(), self.tables.values)
+            self.tracing.sample(self.moments.pop(), self.tables.values if self.tables else {})
+
+    def settle(self, kind, words):
+        """What the lines before this one of the tool ask of it."""
+        if self.tables is None and kind != "start":
+            self.find_setup(int(words[0]) if kind == "setup" else 0)
+        elif kind == "refused" and self.refusals:
+            self.refusals -= 1
+        elif self.refusals:
+            self.breaks(f"{self.refusals} kept requests are to be refused")
+            self.refusals = 0
+        elif kind == "refused" and self.before[0] == "setup":
+            self.breaks("this request is to be carried out")
+        if self.keeping is not None and kind not in ("kept", "power", "start", "setup"):
+            self.breaks("nothing comes between the two lines of a request that is kept")
+            self.keeping = None
+        if self.owes and kind not in MADE:
+            self.breaks("what is enabled makes a message")
+        self.owes = False
 
     # What both ends do.
 
@@ -297,8 +281,8 @@ class Reading:
 
     # Power, and the disk.
 
-    def carry_out(self, work, size=1):
-        calls = self.file.carry_out(work, size)
+    def carry_out(self, work, what=None):
+        calls = self.file.carry_out(work, what)
         if self.calls is not None:
             self.calls += calls
 
@@ -314,6 +298,12 @@ class Reading:
     def size(self):
         return self.moving[1].message.size
 
+    def under_way(self):
+        """The work that is begun, and what of."""
+        if self.moving:
+            return self.work(), self.size()
+        return ("keep", self.keeping) if self.keeping is not None else None
+
     def tool_power(self):
         self.losses += 1
         # It may go before the samples have their lines, while a message is stored or system bytes are set aside.
@@ -326,12 +316,12 @@ class Reading:
 
     def lose(self, cut):
         """Power goes at a call of the disk, behind those that were counted in its event, or at the event's end."""
-        if self.is_short and self.file.lose("reserve", cut.call - self.calls, cut):
+        if self.is_short and self.file.lose("reserve", None, cut.call - self.calls, cut):
             return
         if self.is_short:
             self.calls += 5
-        call = cut.call - self.calls
-        if call < 1 or self.moving and not self.file.lose(self.work(), call, cut, self.size()):
+        call, begun = cut.call - self.calls, self.under_way()
+        if call < 1 or begun and not self.file.lose(*begun, call, cut):
             self.breaks(f"this is no loss at call {cut.call}, for {self.calls} are made before")
 
     def guess(self, found, base):
@@ -341,9 +331,21 @@ class Reading:
         if self.is_short and base != self.file.mark.value:
             self.file.carry_out("reserve")
 
+    def find_setup(self, found):
+        """A start finds so many kept requests, and carries them out. Where calls aren't counted, their number says whether
+        one was kept as power went."""
+        if self.is_guessed and self.keeping is not None and found != len(self.file.setup.value):
+            self.file.carry_out("keep", self.keeping)
+        self.keeping, kept = None, self.file.setup.value
+        if found != len(kept):
+            self.breaks(f"{len(kept)} requests are kept")
+        self.tables = Tables(self.plan, kept)
+        self.refusals = self.tables.refused
+
     def tool_start(self, found, base):
         found, base = int(found[len("len="):]), int(base[len("base="):])
-        if self.calls is None:
+        self.is_guessed = self.calls is None
+        if self.is_guessed:
             self.guess(found, base)
         kind, put = self.moving or (None, None)
         standing = self.file.standing()
@@ -374,11 +376,16 @@ class Reading:
             self.tables.values[wanted[0]] = wanted[1]
 
     def tool_event(self, event, number):
-        self.made = Message("S6F11 W", self.tables.event(int(event), int(number)))
-        self.events[self.made.body] = self.made
+        self.owes = int(event) in self.tables.enabled
+        self.made = Message("S6F11 W", self.tables.event(int(event), int(number))) if self.owes else None
+        if self.owes:
+            self.events[self.made.body] = self.made
 
     def tool_alarm(self, alarm, state):
-        self.made = Message("S5F1 W", self.plan.alarm_body(int(alarm), state))
+        alarm, before = int(alarm), set(self.tables.set_alarms)
+        self.tables.set_alarms = before | {alarm} if state == "set" else before - {alarm}
+        self.owes = alarm in self.tables.alarms and self.tables.set_alarms != before
+        self.made = Message("S5F1 W", self.tables.alarm(alarm)) if self.owes else None
 
     def new(self, name):
         """The message of this name that the step has made. A text of a terminal has no line of its own."""
@@ -398,13 +405,32 @@ class Reading:
         elif name in CHANGES or name == "S2F23":
             self.silent = self.last_received
 
+    def tool_keeping(self, *name):
+        """A request of the setup is accepted, and is being kept."""
+        request, _, body = self.last_received or ("nothing", "", b"")
+        change = request.split(" ")[0]
+        if self.before[:1] != ["rx"] or request != " ".join(name) or change not in CHANGES:
+            return self.breaks("no such request has come")
+        after = self.tables.after(change, body)
+        if after is None:
+            self.breaks("it is to be refused")
+        else:
+            self.tables = after
+        self.keeping = kept_behind(self.file.setup.value, change, body)
+
+    def tool_kept(self, *name):
+        if self.keeping is None or self.before != ["keeping", *name]:
+            return self.breaks("no such request was being kept")
+        self.carry_out("keep", self.keeping)
+        self.keeping = None
+
     def judge(self, kind):
-        """A request without W was carried out where the acknowledgement of its block is the next line."""
+        """A request without W was carried out, or refused, where the acknowledgement of its block is the next line."""
         name, _, body = self.silent
         if kind == "tx" and name == "S2F23":
             self.tracing.set(body, self.now)
-        elif kind == "tx":
-            self.tables = self.tables.after(name, body)
+        elif kind == "tx" and self.tables.after(name, body) is not None:
+            self.breaks("the request before is to be kept")
         self.silent = None
 
     def answers(self, name, system, body):
@@ -414,8 +440,8 @@ class Reading:
             return
         request, _, asked = self.request
         request = request.split(" ")[0]
-        if body.hex() == DONE and request in CHANGES:
-            self.tables = self.tables.after(request, asked)
+        if request in CHANGES and not name.endswith("F0"):
+            self.answers_change(request, asked, body)
         if name == "S2F24":
             code = self.tracing.set(asked, self.now)
             if body != headed("B", 1, bytes([code])):
@@ -425,6 +451,13 @@ class Reading:
         if name == "S6F20" and body != self.tables.report(parsed(asked)):
             self.breaks("other values than those of now")
         self.request = None
+
+    def answers_change(self, request, asked, body):
+        is_kept = self.before == ["kept", request, "W"]
+        if is_kept != is_accepted(request, body):
+            self.breaks("it is accepted where it is kept")
+        if not is_kept and self.tables.after(request, asked) is not None:
+            self.breaks("it is to be kept")
 
     # What the tool sends, and what becomes of it.
 
@@ -457,6 +490,8 @@ class Reading:
             self.breaks(f"the tool has made {wanted.body.hex().upper() if wanted else 'no such message'}")
         else:
             self.open[system] = wanted
+        if wanted and self.is_active and self.is_spooled(wanted.name):
+            self.breaks("it is to be stored")
 
     def tool_failed(self, name, *words):
         if not is_reply(name):
@@ -486,7 +521,7 @@ class Reading:
 
     def tool_discarded(self, *name):
         message = self.new_or_failed(" ".join(name))
-        if self.tables.overwrites:
+        if self.tables.constants[OVERWRITE]:
             self.breaks("the oldest are to leave for it")
         if message:
             self.breaks_by(self.has_room(message, self.file.used()))
@@ -514,8 +549,19 @@ class Reading:
 
     # The spool.
 
+    def tool_spool(self, state):
+        self.is_active = state == "ACTIVE"
+        if self.is_active and not self.tables.constants[ENABLE_SPOOL]:
+            self.breaks("the constant forbids that")
+
+    def is_spooled(self, name):
+        """Whether the rule has messages of this name."""
+        return name.split(" ")[0] in self.tables.rule
+
     def tool_storing(self, number, *name):
         name = " ".join(name)
+        if not self.is_spooled(name):
+            self.breaks("the rule doesn't have it")
         message = self.failed.pop(0) if self.failed else self.new(name)
         if not message or message.name != name:
             self.breaks(f"{message.name if message else 'nothing'} is to be stored here")
@@ -542,7 +588,7 @@ class Reading:
             self.breaks("the host hasn't taken it")
         if cause == "purged" and not self.is_purge_asked():
             self.breaks("the host hasn't asked for that")
-        if cause == "overwritten" and not self.tables.overwrites:
+        if cause == "overwritten" and not self.tables.constants[OVERWRITE]:
             self.breaks("the constant forbids that")
         if cause == "overwritten":
             self.used.append(self.file.used())

@@ -5,7 +5,8 @@ import tempfile
 
 from reading import Reading
 
-COUNTED = ("rx", "sent S2F24", "sent S6F1", "power", "stored", "try", "confirmed", "purged", "overwritten", "slip")
+COUNTED = ("rx", "sent S2F24", "sent S6F1", "power", "stored", "try", "confirmed", "purged", "overwritten", "kept",
+           "setup", "slip")
 
 
 class Replays:

@@ -47,14 +47,14 @@ def spelled(text):
 
 
 def parsed(spelling):
-    """A list as a list, a text as its bytes, an unsigned number as a number, a flag as 0 or 1."""
+    """A list as a list, a text as its bytes, an unsigned number as a number, or None without one, a flag as 0 or 1."""
     def item(at):
         code, size = spelling[at] >> 2, spelling[at] & 3
         count, at = int.from_bytes(spelling[at + 1:at + 1 + size], "big"), at + 1 + size
         if code == CODES["A"]:
             return spelling[at:at + count], at + count
         if code != CODES["L"]:
-            number = int.from_bytes(spelling[at:at + count], "big")
+            number = int.from_bytes(spelling[at:at + count], "big") if count else None
             return min(number, 1) if code == CODES["BOOLEAN"] else number, at + count
         items = []
         for _ in range(count):

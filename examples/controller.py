@@ -36,6 +36,7 @@ class Tool:
     def __init__(self, words):
         self.child = subprocess.Popen(words, stdin=subprocess.PIPE, stdout=subprocess.PIPE, encoding="latin-1")
         self.turn, self.asked = threading.Lock(), None
+        print(f"# pid {self.child.pid}", flush=True)
         self.reader = threading.Thread(target=self.read)
         self.reader.start()
 

@@ -12,12 +12,13 @@ FRAME = "a frame"
 HEADED = ("duplicate", "unexpected", "foreign", "toolong", "crowded", "t4")
 # The form of each line behind its moment, as docs/PROFILE.md has it.
 FORMS = (
-    "end", "E start len=N base=N", "H start", "E power", "X closed", "X sent NAME SYS BODY", "X rx NAME SYS BODY",
-    "X tx HEX", "X comms (DISABLED|WAIT-CRA|WAIT-DELAY|NOT-COMMUNICATING|COMMUNICATING)",
+    "end", "E start len=N base=N", "E setup N", "H start", "E power", "X closed", "X sent NAME SYS BODY",
+    "X rx NAME SYS BODY", "X tx HEX",
+    "X comms (DISABLED|WAIT-CRA|WAIT-DELAY|NOT-COMMUNICATING|COMMUNICATING)",
     "E control (EQUIPMENT-OFF-LINE|ATTEMPT-ON-LINE|HOST-OFF-LINE|LOCAL|REMOTE)", "E spool (ACTIVE|INACTIVE)",
     "E set N", "E event N N", "E alarm N (set|clear)", "E command .*", "E display N BODY", "E refused",
-    "E storing N NAME", "E stored N", "E leaving N (confirmed|purged|overwritten)", "E gone N", "E try N SYS",
-    "X (duplicate|unexpected|foreign|toolong|crowded|t4) HEADER", "X (failed|t3|stranger) NAME SYS",
+    "E (keeping|kept) NAME", "E storing N NAME", "E stored N", "E leaving N (confirmed|purged|overwritten)", "E gone N",
+    "E try N SYS", "X (duplicate|unexpected|foreign|toolong|crowded|t4) HEADER", "X (failed|t3|stranger) NAME SYS",
     "X (dropped|denied|discarded|toolong|full) NAME", "X slip (N|-) FRAME",
 )
 PARTS = {"X": "[EH]", "N": "[0-9]+", "NAME": "S[0-9]+F[0-9]+( W)?", "SYS": "[0-9A-F]{8}", "HEADER": "[0-9A-F]{20}",
