@@ -25,7 +25,7 @@ use Rattle.gem_reports.specs.Drafts.{IsDraft, IsLinkDraft}
 use Rattle.gem_reports.specs.Events.{EventTable, enabled_by, event_after, events_at, links_in, links_in_table, with_no_links, with_links, without}
 use Rattle.gem_reports.specs.History.{ReportEntry, each_once, is_event, link_count, links_at, links_of, report_at, report_count}
 use Rattle.gem_reports.specs.History.ReportEntry.{DeleteAll, Link, Unlink, Enable}
-use Rattle.gem_reports.specs.Tables.{HasReports, ReportTable, ReportsView, StandsFor}
+use Rattle.gem_reports.specs.Tables.{HasReports, ReportTable, ReportsView, StandsFor, vids_behind, vids_in}
 use Rattle.gem_reports.proofs.Counted.{counted}
 use Rattle.gem_reports.proofs.Members.{among_each_once, filter_shorter, none_distinct, once_distinct}
 use Rattle.gem_reports.proofs.Rows.{at_event, each_after, event_row, event_rows, looked_up}
@@ -44,14 +44,14 @@ count_is reports past has =
     sym (length-map reports (λ (e : ℕ × List ℕ). e.0))
     ∙ counted past (keys_of reports) has.distinct (λ q. keyed q reports ∙ ap (λ o. is_some o) (has.each q))
 
--- an entry of S2F33 is judged by what is kept as by the history
+-- an entry of S2F33 is judged by the draft as by the history
 judged_define :
-    (value : ℕ → Option Item) (reports : ReportTable) (past : List ReportEntry) (entry : Definition)
-    → HasReports reports past
-    → drack_by value (lookup (nat_eq entry.rptid) reports) (length reports) entry ≡ drack_at value past entry
-judged_define value reports past entry has =
-    ap (λ o. drack_by value o (length reports) entry) (has.each entry.rptid)
-    ∙ ap (λ n. drack_by value (report_at past entry.rptid) n entry) (count_is reports past has)
+    (value : ℕ → Option Item) (standing changes : ReportTable) (count : ℕ) (deleted : List ℕ)
+    (start past : List ReportEntry) (entry : Definition) → IsDraft standing changes count deleted start past
+    → drack_by value (vids_behind changes standing entry.rptid) count entry ≡ drack_at value past entry
+judged_define value standing changes count deleted start past entry draft =
+    ap (λ o. drack_by value o count entry) (draft.each entry.rptid)
+    ∙ ap (λ n. drack_by value (report_at past entry.rptid) n entry) draft.counted
 
 -- what an entry of S2F33 leaves
 abbrev entered : Definition → List ReportEntry → List ReportEntry
@@ -59,40 +59,46 @@ entered entry past = define_entry entry ∷ past
 
 -- so many entries have been worked through
 abbrev pub IsDefining :
-    (ℕ → Option Item) → ReportTable → List ℕ → List ReportEntry → List ReportEntry → List Definition → List Definition
-    → Type 0
-IsDefining value reports deleted start past list rest =
-    IsWorking (drack_of value) entered (IsDraft reports deleted start) past list rest
+    (ℕ → Option Item) → ReportTable → ReportTable → ℕ → List ℕ → List ReportEntry → List ReportEntry
+    → List Definition → List Definition → Type 0
+IsDefining value standing changes count deleted start past list rest =
+    IsWorking (drack_of value) entered (IsDraft standing changes count deleted start) past list rest
 
 pub defining :
-    (value : ℕ → Option Item) (reports : ReportTable) (deleted : List ℕ) (start past : List ReportEntry)
-    (list : List Definition) → IsDraft reports deleted start past
-    → IsDefining value reports deleted start past list list
-defining value reports deleted start past list draft =
-    begins (drack_of value) entered (IsDraft reports deleted start) past list draft
+    (value : ℕ → Option Item) (standing changes : ReportTable) (count : ℕ) (deleted : List ℕ)
+    (start past : List ReportEntry) (list : List Definition) → IsDraft standing changes count deleted start past
+    → IsDefining value standing changes count deleted start past list list
+defining value standing changes count deleted start past list draft =
+    begins (drack_of value) entered (IsDraft standing changes count deleted start) past list draft
+
+-- the answer to an entry by the draft
+abbrev pub kept_drack : (ℕ → Option Item) → ReportTable → ReportTable → ℕ → Definition → Drack
+kept_drack value standing changes count entry =
+    drack_by value (vids_behind changes standing entry.rptid) count entry
 
 -- an entry's answer, and that to those behind it
 first_of :
-    (value : ℕ → Option Item) (reports : ReportTable) (deleted : List ℕ) (start at : List ReportEntry)
-    (entry : Definition) (rest : List Definition) (answer : Drack) → IsDraft reports deleted start at
-    → answer ≡ drack_by value (lookup (nat_eq entry.rptid) reports) (length reports) entry
+    (value : ℕ → Option Item) (standing changes : ReportTable) (count : ℕ) (deleted : List ℕ)
+    (start at : List ReportEntry) (entry : Definition) (rest : List Definition) (answer : Drack)
+    → IsDraft standing changes count deleted start at → answer ≡ kept_drack value standing changes count entry
     → first_drack answer (drack_of value (entered entry at) rest) ≡ drack_of value at (entry ∷ rest)
-first_of value reports deleted start at entry rest answer draft verdict =
+first_of value standing changes count deleted start at entry rest answer draft verdict =
     ap (λ a. first_drack a (drack_of value (entered entry at) rest))
-    (verdict ∙ judged_define value reports at entry draft.standing)
+    (verdict ∙ judged_define value standing changes count deleted start at entry draft)
 
 pub defining_more :
-    (value : ℕ → Option Item) (reports now : ReportTable) (deleted gone : List ℕ) (start past : List ReportEntry)
-    (list : List Definition) (i : ℕ) (d : Definition) → i < length list
-    → drack.Done ≡ drack_by value (lookup (nat_eq (get_or list i d).rptid) reports) (length reports) (get_or list i d)
-    → ((at : List ReportEntry) → IsDraft reports deleted start at
-    → IsDraft now gone start (define_entry (get_or list i d) ∷ at))
-    → IsDefining value reports deleted start past list (drop i list)
-    → IsDefining value now gone start past list (drop (i + 1) list)
-defining_more value reports now deleted gone start past list i d within verdict drafted_more so_far =
-    goes_on (drack_of value) entered (IsDraft reports deleted start) (IsDraft now gone start) past list i d within
-    drafted_more
-    (λ at draft rest. first_of value reports deleted start at (get_or list i d) rest drack.Done draft verdict) so_far
+    (value : ℕ → Option Item) (standing changes now : ReportTable) (count after : ℕ) (deleted gone : List ℕ)
+    (start past : List ReportEntry) (list : List Definition) (i : ℕ) (d : Definition) → i < length list
+    → drack.Done ≡ kept_drack value standing changes count (get_or list i d)
+    → ((at : List ReportEntry) → IsDraft standing changes count deleted start at
+    → IsDraft standing now after gone start (define_entry (get_or list i d) ∷ at))
+    → IsDefining value standing changes count deleted start past list (drop i list)
+    → IsDefining value standing now after gone start past list (drop (i + 1) list)
+defining_more value standing changes now count after deleted gone start past list i d within verdict drafted_more so_far =
+    goes_on (drack_of value) entered (IsDraft standing changes count deleted start)
+    (IsDraft standing now after gone start) past list i d within drafted_more
+    (λ at draft rest.
+    first_of value standing changes count deleted start at (get_or list i d) rest drack.Done draft verdict) so_far
 
 first_refusal : (answer rest : Drack) → (answer ≡ drack.Done → ⊥) → first_drack answer rest ≡ answer
 first_refusal drack.Done rest refused = absurd (refused refl)
@@ -101,30 +107,38 @@ first_refusal (drack.Defined rptid) rest refused = refl
 first_refusal (drack.UnknownVid vid) rest refused = refl
 
 pub defining_refused :
-    (value : ℕ → Option Item) (reports : ReportTable) (deleted : List ℕ) (start past : List ReportEntry)
-    (list : List Definition) (i : ℕ) (d : Definition) (answer : Drack) → i < length list
-    → answer ≡ drack_by value (lookup (nat_eq (get_or list i d).rptid) reports) (length reports) (get_or list i d)
-    → (answer ≡ drack.Done → ⊥) → IsDefining value reports deleted start past list (drop i list)
+    (value : ℕ → Option Item) (standing changes : ReportTable) (count : ℕ) (deleted : List ℕ)
+    (start past : List ReportEntry) (list : List Definition) (i : ℕ) (d : Definition) (answer : Drack)
+    → i < length list → answer ≡ kept_drack value standing changes count (get_or list i d)
+    → (answer ≡ drack.Done → ⊥) → IsDefining value standing changes count deleted start past list (drop i list)
     → answer ≡ drack_of value past list
-defining_refused value reports deleted start past list i d answer within verdict refused so_far =
-    refuses (drack_of value) entered (IsDraft reports deleted start) past list i d answer within
+defining_refused value standing changes count deleted start past list i d answer within verdict refused so_far =
+    refuses (drack_of value) entered (IsDraft standing changes count deleted start) past list i d answer within
     (λ at draft rest.
     let entry = get_or list i d in
     sym (first_refusal answer (drack_of value (entered entry at) rest) refused)
-    ∙ first_of value reports deleted start at entry rest answer draft verdict) so_far
+    ∙ first_of value standing changes count deleted start at entry rest answer draft verdict) so_far
 
 pub defining_done :
-    (value : ℕ → Option Item) (reports : ReportTable) (deleted : List ℕ) (start past : List ReportEntry)
-    (list : List Definition) (i : ℕ) → length list ≤ i
-    → IsDefining value reports deleted start past list (drop i list)
-    → (drack.Done ≡ drack_of value past list) × IsDraft reports deleted start (past_with_definitions past list)
-defining_done value reports deleted start past list i end so_far =
-    ends (drack_of value) entered (IsDraft reports deleted start) past list i drack.Done end (λ at. refl) so_far
+    (value : ℕ → Option Item) (standing changes : ReportTable) (count : ℕ) (deleted : List ℕ)
+    (start past : List ReportEntry) (list : List Definition) (i : ℕ) → length list ≤ i
+    → IsDefining value standing changes count deleted start past list (drop i list)
+    → (drack.Done ≡ drack_of value past list)
+    × IsDraft standing changes count deleted start (past_with_definitions past list)
+defining_done value standing changes count deleted start past list i end so_far =
+    ends (drack_of value) entered (IsDraft standing changes count deleted start) past list i drack.Done end
+    (λ at. refl) so_far
 
--- the same history, with nothing deleted yet
+-- the draft before any entry
 pub drafted :
-    (reports : ReportTable) (past : List ReportEntry) → HasReports reports past → IsDraft reports [] past past
-drafted reports past has = record { standing = has; rows = λ ceid. without_none past ceid }
+    (standing changes : ReportTable) (count : ℕ) (deleted : List ℕ) (past : List ReportEntry)
+    → HasReports standing past → changes ≡ [] → count ≡ length standing → deleted ≡ []
+    → IsDraft standing changes count deleted past past
+drafted standing changes count deleted past has unchanged counted none = record {
+  each = λ q. ap (λ (t : ReportTable). vids_behind t standing q) unchanged ∙ has.each q;
+  counted = counted ∙ count_is standing past has;
+  rows = λ ceid. ap (λ (ids : List ℕ). without ids ceid (event_after past ceid)) none ∙ without_none past ceid;
+}
 
 fewer :
     (f g : ℕ → ℕ) (events : List ℕ) → ((ceid : ℕ) → f ceid ≤ g ceid) → sum_by g (each_once events) ≤ 4096
@@ -133,13 +147,14 @@ fewer f g events less few = let sums = sum_by-le-sum_by f g (each_once events) l
 
 -- a definition of reports that was worked through
 pub defined_stands :
-    (view : ReportsView) (now : EventTable) (reports : ReportTable) (deleted : List ℕ) (events : List ℕ)
-    (past after : List ReportEntry) → StandsFor view events past → IsDraft reports deleted past after
-    → now ≡ with_each (without deleted) view.events
+    (view : ReportsView) (now : EventTable) (reports changes : ReportTable) (count : ℕ) (deleted : List ℕ)
+    (events : List ℕ) (past after : List ReportEntry) → StandsFor view events past
+    → IsDraft view.reports changes count deleted past after → now ≡ with_each (without deleted) view.events
+    → ((q : ℕ) → vids_in reports q ≡ vids_behind changes view.reports q) → IsDistinct nat_eq (keys_of reports)
     → StandsFor (record { events = now; reports = reports }) events after
-defined_stands view now reports deleted events past after stands draft is = record {
+defined_stands view now reports changes count deleted events past after stands draft is changed distinct = record {
   rows = is ∙ ap (with_each (without deleted)) stands.rows ∙ each_after (without deleted) events past after draft.rows;
-  standing = draft.standing;
+  standing = record { each = λ q. changed q ∙ draft.each q; distinct = distinct };
   few = fewer (λ ceid. length (links_at after ceid)) (λ ceid. length (links_at past ceid)) events
       (λ ceid. let same = ap (λ (e : Event). length e.rptids) (draft.rows ceid) in
       let short = filter_shorter (λ rptid. not (list_any (nat_eq rptid) deleted)) (links_at past ceid) in
@@ -470,14 +485,6 @@ link_drafted view copy count events past stands is counted =
       stands = record { rows = rows; standing = stands.standing; few = stands.few };
       counted = let few = stands.few in omega (arith, counted, links, few);
     }
-
--- a copy before any entry
-pub drafted_copy :
-    (view : ReportsView) (reports : ReportTable) (deleted : List ℕ) (events : List ℕ) (past : List ReportEntry)
-    → StandsFor view events past → reports ≡ view.reports → deleted ≡ [] → IsDraft reports deleted past past
-drafted_copy view reports deleted events past stands same none =
-    subst (λ (ids : List ℕ). IsDraft reports ids past past) (sym none)
-    (subst (λ (t : ReportTable). IsDraft t [] past past) (sym same) (drafted view.reports past stands.standing))
 
 pub not_done : (b : Bool) (P : Type 0) → (IsTrue b ↔ P) → b ≡ false → P → ⊥
 not_done b P iff fails is = true≢false (sym (iff.1 is) ∙ fails)

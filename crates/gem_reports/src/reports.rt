@@ -1,5 +1,5 @@
 //! The events and reports of a tool, behind S2F33, S2F35 and S2F37. A refused request changes nothing, so definitions
-//! and links are tried on copies; what is only judged is tried on one that is dropped.
+//! are tried beside what stands, and links on a copy; what is only judged is tried on a draft that is dropped.
 
 ghost use Rattle.std.specs.Prelude.{◌≡◌, ◌≢◌, ◌&&◌, List, ℕ, [], ◌∷◌, IfOk, Ok};
 ghost use Rattle.gem_vars.specs.Tables.{value_in};
@@ -8,7 +8,7 @@ ghost use Rattle.gem_reports.specs.declared.answers.Erack.TheVariants as erack;
 ghost use Rattle.gem_reports.specs.declared.answers.Lrack.TheVariants as lrack;
 ghost use Rattle.gem_reports.specs.Answers.{drack_of, erack_of, lrack_of, past_after_define, past_after_link};
 ghost use Rattle.gem_reports.specs.Bodies.{event_body_at, report_body_at};
-ghost use Rattle.gem_reports.specs.Drafts.{IsDraft, IsLinkDraft};
+ghost use Rattle.gem_reports.specs.Drafts.{IsLinkDraft};
 ghost use Rattle.gem_reports.specs.History.{ReportEntry, enabled_at, is_event};
 ghost use Rattle.gem_reports.specs.History.ReportEntry.{Enable};
 ghost use Rattle.gem_reports.specs.Tables.{StandsFor};
@@ -88,13 +88,14 @@ impl Reports {
             self.standing.clear();
             return Ok(Drack::Done);
         }
-        let mut draft = self.draft(alloc)?;
-        let answer = draft.enter_each(alloc, vars, list)?;
+        let mut draft = Draft::new(alloc, &self.standing);
+        let answer = draft.enter_each(alloc, vars, &self.standing, list)?;
         if !answer.is_done() {
             return Ok(answer);
         }
-        self.events = self.events.without(alloc, &draft.deleted)?;
-        self.standing = draft.standing;
+        let events = self.events.without(alloc, &draft.deleted)?;
+        self.standing.change(draft.changes)?;
+        self.events = events;
         Ok(Drack::Done)
     }
 
@@ -108,18 +109,7 @@ impl Reports {
         ensures { (events : List ℕ) (past : List ReportEntry) → StandsFor self.now events past →
             IfOk result (λ answer. answer ≡ drack_of (value_in vars.now) past list.now) }
     {
-        self.draft(alloc)?.enter_each(alloc, vars, list)
-    }
-
-    // A copy before any entry.
-    fn draft(&self, alloc: Global) -> Result<Draft, NoMemory>
-        ensures { (events : List ℕ) (past : List ReportEntry) → StandsFor self.now events past →
-            IfOk result (λ draft. IsDraft draft.standing draft.deleted.keys past past) }
-    {
-        Ok(Draft {
-            standing: self.standing.copy(alloc)?,
-            deleted: IndexSet::new(alloc),
-        })
+        Draft::new(alloc, &self.standing).enter_each(alloc, vars, &self.standing, list)
     }
 
     /// S2F35: links reports to events. An entry without RPTIDs unlinks its event; a list without entries changes

@@ -1,10 +1,11 @@
 //! The reports that stand.
 
-ghost use Rattle.std.specs.Prelude.{◌≡◌, ℕ, [], not, nat_eq, length, is_some, IfOk, OnOk, Some, None, if◌then◌else◌};
+ghost use Rattle.std.specs.Prelude.{◌≡◌, ◌<◌, ◌≤◌, ◌+◌, ℕ, [], not, nat_eq, length, is_some, OnErr, OnOk, if◌then◌else◌};
 ghost use Rattle.std.specs.List.{IsDistinct, find};
 ghost use Rattle.std.specs.Map.{keys_of};
 ghost use Rattle.std.specs.Option.{option_copied, unwrap_or};
-ghost use Rattle.gem_reports.specs.Tables.{vids_in};
+ghost use Rattle.indexmap.specs.IndexMap.{index_map_len, spare};
+ghost use Rattle.gem_reports.specs.Tables.{report_of, vids_behind, vids_in};
 
 use gl_base::{NoMemory, Row};
 use indexmap::IndexMap;
@@ -68,36 +69,49 @@ impl Standing {
             .find(|rptid| !self.reports.contains_key(*rptid))
     }
 
-    pub(crate) fn copy(&self, alloc: Global) -> Result<Standing, NoMemory>
-        ensures { IfOk result (λ copy. copy ≡ self.now) }
-    {
-        let mut reports = IndexMap::new(alloc);
-        for (rptid, vids) in self.reports.iter() {
-            reports.insert(*rptid, Row::of(alloc, vids.as_slice())?)?;
-        }
-        Ok(Standing { reports })
-    }
-
-    pub(crate) fn put(&mut self, rptid: u32, vids: Row<u32>) -> Result<(), NoMemory>
-        ensures each { OnOk result ((other : ℕ) →
-            vids_in self.new other ≡ (if nat_eq rptid other then Some vids else vids_in self.old other)) }
+    /// Gives each of these reports its VIDs; one without VIDs is deleted. Where memory runs out nothing changes.
+    pub(crate) fn change(&mut self, changes: IndexMap<u32, Row<u32>>) -> Result<(), NoMemory>
+        ensures each { OnOk result ((rptid : ℕ) →
+            vids_in self.new rptid ≡ vids_behind changes.entries self.old rptid) }
         ensures distinct { OnOk result (IsDistinct nat_eq (keys_of self.new)) }
+        ensures refused { OnErr result (self.new ≡ self.old) }
     {
-        self.reports.insert(rptid, vids)?;
+        self.reports.reserve(changes.len())?;
+        change_each(&mut self.reports, changes);
         Ok(())
-    }
-
-    pub(crate) fn remove(&mut self, rptid: u32)
-        ensures each { (other : ℕ) →
-            vids_in self.new other ≡ (if nat_eq rptid other then None else vids_in self.old other) }
-        ensures distinct { IsDistinct nat_eq (keys_of self.new) }
-    {
-        self.reports.swap_remove(&rptid);
     }
 
     pub(crate) fn clear(&mut self)
         ensures { self.new ≡ [] }
     {
         self.reports.clear();
+    }
+}
+
+// Makes the changes, for which there is room.
+fn change_each(reports: &mut IndexMap<u32, Row<u32>>, mut changes: IndexMap<u32, Row<u32>>)
+    requires room { index_map_len changes ≤ spare reports.old }
+    requires distinct { IsDistinct nat_eq (keys_of reports.old.entries) }
+    ensures each { (rptid : ℕ) →
+        vids_in reports.new.entries rptid ≡ vids_behind changes.entries reports.old.entries rptid }
+    ensures distinct { IsDistinct nat_eq (keys_of reports.new.entries) }
+{
+    'changes: while let Some((rptid, vids)) = changes.pop() {
+        change_one(reports, rptid, vids);
+    }
+}
+
+// Makes one change, for which there is room.
+fn change_one(reports: &mut IndexMap<u32, Row<u32>>, rptid: u32, vids: Row<u32>)
+    requires { 0 < spare reports.old }
+    ensures each { (other : ℕ) → vids_in reports.new.entries other ≡
+        (if nat_eq rptid other then report_of vids else vids_in reports.old.entries other) }
+    ensures distinct { IsDistinct nat_eq (keys_of reports.new.entries) }
+    ensures room { spare reports.old ≤ spare reports.new + 1 }
+{
+    if vids.is_empty() {
+        reports.swap_remove(&rptid);
+    } else {
+        let _put = reports.insert(rptid, vids);
     }
 }

@@ -1,9 +1,9 @@
--- All reports are deleted, or the draft over a copy gives the answer and what stands.
+-- All reports are deleted, or the draft gives the answer and what stands.
 
 use Rattle.std.proofs.Common.{sym, ◌∙◌, ap, subst}
 use Rattle.gem_tables.specs.Rows.{with_each}
 use Rattle.gem_reports.specs.Answers.{past_with_definitions}
-use Rattle.gem_reports.specs.Events.{with_no_links, without}
+use Rattle.gem_reports.specs.Events.{with_no_links}
 use Rattle.gem_reports.specs.Tables.{ReportsView, StandsFor}
 use Rattle.gem_reports.proofs.Entering.{defined_stands, deleted_stands, some_defined}
 use Rattle.gem_reports.proofs.reports.Reports.define.Goals as goal
@@ -16,21 +16,25 @@ returns-then-is_empty-clause-stands c = λ events past stands done.
 
 pub returns-then-not-is_done-clause-answer : goal.returns-then-not-is_done-clause-answer
 returns-then-not-is_done-clause-answer c = λ events past stands.
-    c.in_ok-answer.ensures.answer past past (c.in_ok-draft.ensures events past stands)
+    let inside = subst (λ v. StandsFor v events past) (sym c.self.view_is) stands in
+    c.in_ok-answer.ensures.answer past past (c.new-draft.ensures past inside.standing)
 
 pub returns-clause-answer : goal.returns-clause-answer
 returns-clause-answer c = λ events past stands.
+    let inside = subst (λ v. StandsFor v events past) (sym c.self.view_is) stands in
     sym (c.is_done.ensures.0 c.if-not-is_done.false)
-    ∙ c.in_ok-answer.ensures.answer past past (c.in_ok-draft.ensures events past stands)
+    ∙ c.in_ok-answer.ensures.answer past past (c.new-draft.ensures past inside.standing)
 
 pub returns-clause-stands : goal.returns-clause-stands
 returns-clause-stands c = λ events past stands done.
-    let gone = c.enter_each.new.self.deleted.keys in
+    let inside = subst (λ v. StandsFor v events past) (sym c.self.view_is) stands in
+    let draft = c.enter_each.new.self in
     let then =
-    c.in_ok-answer.ensures.draft past past (c.in_ok-draft.ensures events past stands)
+    c.in_ok-answer.ensures.draft past past (c.new-draft.ensures past inside.standing)
     (c.is_done.ensures.0 c.if-not-is_done.false) in
-    subst (StandsFor (record { events = c.in_ok-self-inside.field-0; reports = c.enter_each.new.self.standing }) events)
+    subst (StandsFor (record { events = c.in_ok-events.events; reports = c.change.new.self }) events)
     (some_defined past c.args.list.now (sym c.if-is_empty.ensures))
-    (defined_stands c.args.self.now c.in_ok-self-inside.field-0 c.enter_each.new.self.standing gone events past
-    (past_with_definitions past c.args.list.now) stands then
-    (c.in_ok-self-inside.ensures ∙ ap (λ (v : ReportsView). with_each (without gone) v.events) c.self.view_is))
+    (defined_stands (record { events = c.self.inside.events; reports = c.self.inside.standing }) c.in_ok-events.events
+    c.change.new.self draft.changes.entries draft.count draft.deleted.keys events past
+    (past_with_definitions past c.args.list.now) inside then c.in_ok-events.ensures c.in_ok-change.ensures.each
+    c.in_ok-change.ensures.distinct)
