@@ -45,6 +45,7 @@ impl<L: OpenListener<Stream = S> + AsRawFd, S: Read + Write + OpenStream + AsRaw
         L: Drop,
     {
         listener.set_nonblocking(true)?;
+        watch.add(listener.as_raw_fd(), Watched::Calls)?;
         let start = Instant::now(clock)?;
         Ok(Line {
             listener,
@@ -150,7 +151,7 @@ impl<L: OpenListener<Stream = S> + AsRawFd, S: Read + Write + OpenStream + AsRaw
             (I.remaining input.old.source)
             (prepend_known input.new.bytes (I.remaining input.new.source)) }
     {
-        let at_once = self.watch_all(input)?;
+        let at_once = self.watch_anew(input)?;
         self.watch.wait(if at_once { 0 } else { wait })?;
         if self.watch.is_ready(Watched::Calls) {
             self.accept(input)?;
@@ -163,17 +164,22 @@ impl<L: OpenListener<Stream = S> + AsRawFd, S: Read + Write + OpenStream + AsRaw
         Ok(())
     }
 
-    // Watches all that there is to wait for. Tells whether the input can't be waited for, and is always ready.
-    fn watch_all<I: Read + AsRawFd>(&self, input: &LiveInput<I>) -> io::Result<bool> {
-        self.watch.add(self.listener.as_raw_fd(), Watched::Calls)?;
-        if let Some(peer) = &self.peer {
+    // Watches anew what the last wait has found ready, and the input before its first wait. Tells whether that can't be
+    // waited for, and is always ready.
+    fn watch_anew<I: Read + AsRawFd>(&self, input: &mut LiveInput<I>) -> io::Result<bool>
+        ensures bytes { input.new.bytes ≡ input.old.bytes }
+        ensures source { input.new.source ≡ input.old.source }
+    {
+        if self.watch.is_ready(Watched::Calls) {
+            self.watch.add(self.listener.as_raw_fd(), Watched::Calls)?;
+        }
+        if let Some(peer) = &self.peer
+            && self.watch.is_ready(Watched::Characters)
+        {
             self.watch
                 .add(peer.stream.as_raw_fd(), Watched::Characters)?;
         }
-        match input.descriptor() {
-            Some(descriptor) => Ok(!self.watch.add(descriptor, Watched::Input)?),
-            None => Ok(false),
-        }
+        input.watch(&self.watch)
     }
 
     // Takes a peer that calls, in place of the one before.
@@ -185,6 +191,7 @@ impl<L: OpenListener<Stream = S> + AsRawFd, S: Read + Write + OpenStream + AsRaw
             Ok((stream, address)) => {
                 stream.set_nonblocking(true)?;
                 stream.set_nodelay(true)?;
+                self.watch.add(stream.as_raw_fd(), Watched::Characters)?;
                 self.peer = Some(Peer { stream, address });
                 input.tell();
                 Ok(())

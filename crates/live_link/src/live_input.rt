@@ -5,8 +5,10 @@ ghost use Rattle.std.specs.Io.KnownBytes.{Keeps, prepend_known};
 ghost use Rattle.live_link.specs.Waits.{brings};
 
 use crate::gathered::{Gathered, Look};
+use crate::watch::{Watch, Watched};
+use std::io;
 use std::io::Read;
-use std::os::fd::{AsRawFd, RawFd};
+use std::os::fd::AsRawFd;
 
 /// Input that is read as it comes: a pipe, a terminal or a file. Each answer of a wait over it comes with the bytes
 /// that had come by then and that no answer before brought.
@@ -17,7 +19,19 @@ pub struct LiveInput<I> {
     ended: bool,
     // it has ended, or another peer is at the line, or none is any more, with the last answer
     news: bool,
+    wait: Wait,
     faults: u64,
+}
+
+// How it is waited for.
+#[derive(Clone, Copy)]
+enum Wait {
+    /// It isn't yet.
+    NotYet,
+    /// By a wait that watches it.
+    Watched,
+    /// It can't be, and is always ready.
+    Never,
 }
 
 impl<I> LiveInput<I> {
@@ -31,6 +45,7 @@ impl<I> LiveInput<I> {
             bytes: Gathered::none(),
             ended: false,
             news: false,
+            wait: Wait::NotYet,
             faults: 0,
         }
     }
@@ -45,6 +60,7 @@ impl<I> LiveInput<I> {
             bytes: Gathered::none(),
             ended: true,
             news: false,
+            wait: Wait::NotYet,
             faults: 0,
         }
     }
@@ -99,13 +115,28 @@ impl<I> LiveInput<I> {
 }
 
 impl<I: Read + AsRawFd> LiveInput<I> {
-    /// Its descriptor, as long as it hasn't ended.
-    pub(crate) fn descriptor(&self) -> Option<RawFd> {
+    /// Has it watched before its first wait, and anew where the last wait has found it ready, as long as it hasn't
+    /// ended. Tells whether it can't be waited for, and is always ready.
+    pub(crate) fn watch(&mut self, watch: &Watch) -> io::Result<bool>
+        ensures bytes { self.new.bytes ≡ self.old.bytes }
+        ensures source { self.new.source ≡ self.old.source }
+    {
         if self.ended {
-            None
-        } else {
-            Some(self.source.as_raw_fd())
+            return Ok(false);
         }
+        let is_due = match self.wait {
+            Wait::NotYet => true,
+            Wait::Watched => watch.is_ready(Watched::Input),
+            Wait::Never => false,
+        };
+        if is_due {
+            self.wait = if watch.add(self.source.as_raw_fd(), Watched::Input)? {
+                Wait::Watched
+            } else {
+                Wait::Never
+            };
+        }
+        Ok(matches!(self.wait, Wait::Never))
     }
 
     /// Reads what is there. Tells whether that could be done.

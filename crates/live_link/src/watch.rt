@@ -1,4 +1,4 @@
-//! One wait over several descriptors, which are watched anew before each.
+//! One wait over several descriptors. Each is watched anew once a wait has found it ready.
 
 use gl_base::NoMemory;
 use mio::unix::SourceFd;
@@ -48,8 +48,9 @@ impl Watch {
         Ok(Watch { poll, ready })
     }
 
-    /// Watches a descriptor from now on, so that the next wait finds it ready also where nothing changes any more.
-    /// Tells whether it can be waited for: a file can't, and is always ready.
+    /// Watches a descriptor from now on, so that the next wait finds it ready also where nothing changes any more. One
+    /// that no wait has found ready since stays watched. Tells whether it can be waited for: a file can't, and is
+    /// always ready.
     pub(crate) fn add(&self, fd: RawFd, what: Watched) -> io::Result<bool> {
         let mut source = SourceFd(&fd);
         let registry = self.poll.registry();
