@@ -35,7 +35,8 @@ same-step same = cc
 same-spent : {S : Type 0} {a b : Step S Note} → Spent a ≡ Spent b → a ≡ b
 same-spent same = cc
 
-module _ (input : Input ToolCommand) (now : ℕ) (old mid : Node OwnView Kind) (out middle : StepOut) (empty : IsEmpty out)
+module _ (input : Input ToolCommand) (now : ℕ) (old mid : Node OwnView Kind) (out middle : StepOut)
+    (empty : IsEmpty out)
     (sound : IsSoundOwn old.own)
   where
     abbrev parts : List ToolPart
@@ -126,7 +127,8 @@ module _ (input : Input ToolCommand) (now : ℕ) (old mid : Node OwnView Kind) (
 
     -- ---- what was begun
 
-    module _ {D : Type 0} (members : disk.Ghosts D) (s : EquipmentView) (g : GemSpool D) (begin : HasOpened members s old g)
+    module _ {D : Type 0} (members : disk.Ghosts D) (s : EquipmentView) (g : GemSpool D)
+        (begin : HasOpened members s old g)
       where
         begins : begun_step s input now ≡ went_with_file (opened s) went
         begins =

@@ -237,7 +237,8 @@ module _ {D : Type 0} (members : disk.Ghosts D) where
 
   -- none is asked for
   pub none-asked :
-      (t : Step EquipmentView Happening) → next_number (most_transmitted t.next.node.own.tables) t.next.node.own.ledger ≡ None
+      (t : Step EquipmentView Happening)
+      → next_number (most_transmitted t.next.node.own.tables) t.next.node.own.ledger ≡ None
       → (e : EndView Kind) → unload_part (oldest_of t.next) (unowed t.next.node.own) e
       ≡ taking None (unowed (asked_node t.next.node).own) e
   none-asked t none e =

@@ -35,7 +35,8 @@ get-has [] at x is = absurd (cc)
 get-has (one ∷ xs) zero x is = inl (cc)
 get-has (one ∷ xs) (suc at) x is = inr (get-has xs at x is)
 
-pub get-front : {X : Type 0} (xs more : List X) (at : ℕ) (x : X) → slice_get xs at ≡ Some x → slice_get (xs ++ more) at ≡ Some x
+pub get-front : {X : Type 0} (xs more : List X) (at : ℕ) (x : X) → slice_get xs at ≡ Some x
+    → slice_get (xs ++ more) at ≡ Some x
 get-front [] more at x is = absurd (cc)
 get-front (one ∷ xs) more zero x is = is
 get-front (one ∷ xs) more (suc at) x is = get-front xs more at x is
@@ -118,7 +119,8 @@ reserves is = if is then Reserve ∷ [] else []
 abbrev pub is_reserving : EquipmentView → Bool
 is_reserving s = needs_numbers s && not (is_marked_out s.file.mark.value)
 
-pub placed : (is : Bool) (works : List DiskWork) (at : ℕ) → slice_get (reserves is ++ works) (place_of is at) ≡ slice_get works at
+pub placed : (is : Bool) (works : List DiskWork) (at : ℕ)
+    → slice_get (reserves is ++ works) (place_of is at) ≡ slice_get works at
 placed true works at = refl
 placed false works at = refl
 

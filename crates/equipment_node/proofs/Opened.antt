@@ -140,7 +140,8 @@ same-story : (a b : Story) → Some a ≡ Some b → a ≡ b
 same-story a b same = cc
 
 -- whatever was left at the end of a stretch
-pub at-last : (s : Story) (after : Option Story) (P : List ℕ → Type 0) (t : Story) → GoesThrough s after P → after ≡ Some t
+pub at-last : (s : Story) (after : Option Story) (P : List ℕ → Type 0) (t : Story) → GoesThrough s after P
+    → after ≡ Some t
     → EachImage P t.now
 at-last s after P t through is =
     subst (λ (x : Story). EachImage P x.now) (same-story through.0 t (sym through.1 ∙ is)) through.2.last

@@ -234,7 +234,8 @@ module _ {D : Type 0} (members : disk.Ghosts D) (s : EquipmentView) (input : Inp
           undone : Undone D
           undone = record { at = cut.at; spent = spent }
 
-          stopped : HasStoppedAt members g (owed_in begun) (standing_in (opened s)) clear.stands sized told.0 told.1 setup
+          stopped : HasStoppedAt members g (owed_in begun) (standing_in (opened s))
+              clear.stands sized told.0 told.1 setup
               undone
           stopped =
               owed-amid members g (owed_in begun) (standing_in (opened s)) clear.stands sized told.0 told.1 setup undone
@@ -502,7 +503,8 @@ module _ {D : Type 0} (members : disk.Ghosts D) (s : EquipmentView) (input : Inp
     -- the works are done, and the last parts begin
     pub at-settled : (h : GemSpool D) (after : Node OwnView Kind) (out : StepOut)
         → (is_some (to_keep node.own) ≡ true → is_some (opened s).file.setup.bytes ≡ true)
-        → CarriesOwed members g node.own.ledger.works (to_keep node.own) (Ok h) → after ≡ settled_node node → out ≡ middle
+        → CarriesOwed members g node.own.ledger.works (to_keep node.own) (Ok h) → after ≡ settled_node node
+        → out ≡ middle
         → IsAt members (kept_step (settled_step begun.step)) after out h
     at-settled h after out area carried after_is same = record {
       node_is = after_is ∙ ap settled_node (sym begun.node_is);
@@ -516,7 +518,8 @@ module _ {D : Type 0} (members : disk.Ghosts D) (s : EquipmentView) (input : Inp
       written = ap (λ (o : StepOut). o.line.items) same ∙ begun.written;
     }
       where
-        carried-is : CarriesOwed members g begun.step.next.node.own.ledger.works (to_keep begun.step.next.node.own) (Ok h)
+        carried-is : CarriesOwed members g begun.step.next.node.own.ledger.works (to_keep begun.step.next.node.own)
+            (Ok h)
         carried-is =
             subst (λ (n : Node OwnView Kind). CarriesOwed members g n.own.ledger.works (to_keep n.own) (Ok h))
             (sym begun.node_is) carried

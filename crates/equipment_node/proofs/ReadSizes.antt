@@ -128,7 +128,8 @@ module _ {D : Type 0} (members : disk.Ghosts D) (v w : SpoolView D) (number left
 
         go : ((w ≡ v) × (into ≡ before) × ((number < v.first) ⊎ (v.next ≤ number)))
             ⊎ (HasLooked members v w (number % v.slots) Done × IsInReach v number
-            × HasSlot members v (number % v.slots) into × (HasHead number into → ⊥)) → HasLooked members v w (number % v.slots) Done
+            × HasSlot members v (number % v.slots) into × (HasHead number into → ⊥))
+            → HasLooked members v w (number % v.slots) Done
         go (inl (same, stays, inl out)) = let from = reach.0 in absurd (omega (arith, out, from))
         go (inl (same, stays, inr out)) = let to = reach.1 in absurd (omega (arith, out, to))
         go (inr is) = is.0

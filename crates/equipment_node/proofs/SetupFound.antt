@@ -313,7 +313,8 @@ module _ {D : Type 0} (members : disk.Ghosts D) (v : SpoolView D)
 
 -- ---- a start behind it
 
-module _ {D : Type 0} (members : disk.Ghosts D) (plan : EquipmentPlan) (v : SpoolView D) (fresh : IsFresh members v) where
+module _ {D : Type 0} (members : disk.Ghosts D) (plan : EquipmentPlan) (v : SpoolView D)
+    (fresh : IsFresh members v) where
   abbrev here : SpoolFile
   here = (standing_of members v).file
 

@@ -169,8 +169,10 @@ module _ {D : Type 0} (members : disk.Ghosts D) where
     some = is.some;
   }
 
-  pub owed-counted : (g h : GemSpool D) (ledger : LedgerView) (setup : Option (List ℕ)) → IsCounted members g.spool ledger
-      → WorksFit ledger → CarriesOwed members g ledger.works setup (Ok h) → IsCounted members h.spool (carried_out ledger)
+  pub owed-counted : (g h : GemSpool D) (ledger : LedgerView) (setup : Option (List ℕ))
+      → IsCounted members g.spool ledger
+      → WorksFit ledger → CarriesOwed members g ledger.works setup (Ok h)
+      → IsCounted members h.spool (carried_out ledger)
   owed-counted g h ledger None is fit (u, carried, same) =
       subst (λ (x : GemSpool D). IsCounted members x.spool (carried_out ledger)) (sym same)
       (counted-behind g u ledger is fit carried)

@@ -297,7 +297,8 @@ module _ {D : Type 0} (members : disk.Ghosts D) where
             fit-is : WorksFit begun.step.next.node.own.ledger
             fit-is = subst WorksFit ledger-is fit
 
-            standing : standings_behind stood (owed_works works setup) ≡ standing_in (kept_view (settled begun.step.next))
+            standing : standings_behind stood (owed_works works setup)
+                ≡ standing_in (kept_view (settled begun.step.next))
             standing =
                 done-standing members s input now went (Goes begun.step) begun.is
                 (to_keep begun.step.next.node.own)

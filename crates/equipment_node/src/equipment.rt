@@ -81,11 +81,11 @@ pub enum Starting<D> {
 }
 
 impl<D: Disk> Equipment<D> {
-    /// A start: the spool is taken up from its device and made one of version 2, system bytes are reserved there, and the
-    /// setup that is kept there is carried out, if the file has an area. The plan is copied where it is kept, and must
-    /// fit. The disk's calls are a sync, a read of what is in front of the slots, those of the slots, one or two reads of
-    /// the setup, a read of each message's first slot, the four of an upgrade where the file is of version 1, and those
-    /// five that move the mark, up to the first that fails. `NumbersSpent` comes where the mark of
+    /// A start: the spool is taken up from its device and made one of version 2, system bytes are reserved there, and
+    /// the setup that is kept there is carried out, if the file has an area. The plan is copied where it is kept, and
+    /// must fit. The disk's calls are a sync, a read of what is in front of the slots, those of the slots, one or two
+    /// reads of the setup, a read of each message's first slot, the four of an upgrade where the file is of version 1,
+    /// and those five that move the mark, up to the first that fails. `NumbersSpent` comes where the mark of
     /// the file can't move on, and nowhere else, and no start goes on there. Whether the disk tells its bytes or not,
     /// it is handed back with its file, and counts a fault where the answer is `DiskFailed` and nowhere else. A disk of
     /// which no call is to fail stays such.

@@ -40,7 +40,8 @@ fits_by true size c fits = absurd (grind (arith, fits))
 fits_by false size c fits =
     go (nat_lt (2 ^ 63) (c.next + size)) refl (nat_lt c.slots (c.used + size)) refl fits
   where
-    go : (spent : Bool) → nat_lt (2 ^ 63) (c.next + size) ≡ spent → (full : Bool) → nat_lt c.slots (c.used + size) ≡ full →
+    go : (spent : Bool) → nat_lt (2 ^ 63) (c.next + size) ≡ spent → (full : Bool) →
+        nat_lt c.slots (c.used + size) ≡ full →
         (if spent then room.NumbersSpent else (if full then room.Full else room.Fits)) ≡ room.Fits →
         IsWithin false size c × (c.used + size ≤ c.slots)
     go true over full test is = absurd (grind (arith, is))
@@ -54,7 +55,8 @@ full_by true size c full = absurd (grind (arith, full))
 full_by false size c full =
     go (nat_lt (2 ^ 63) (c.next + size)) refl (nat_lt c.slots (c.used + size)) refl full
   where
-    go : (spent : Bool) → nat_lt (2 ^ 63) (c.next + size) ≡ spent → (over : Bool) → nat_lt c.slots (c.used + size) ≡ over →
+    go : (spent : Bool) → nat_lt (2 ^ 63) (c.next + size) ≡ spent → (over : Bool) →
+        nat_lt c.slots (c.used + size) ≡ over →
         (if spent then room.NumbersSpent else (if over then room.Full else room.Fits)) ≡ room.Full →
         IsWithin false size c × (nat_lt c.slots (c.used + size) ≡ true)
     go true above over test is = absurd (grind (arith, is))

@@ -1,5 +1,5 @@
--- That a message is stored by one call for each that leaves for it, and the put. What room is made for isn't printed, so
--- those calls needn't know it.
+-- That a message is stored by one call for each that leaves for it, and the put. What room is made for isn't printed,
+-- so those calls needn't know it.
 use Rattle.std.proofs.Common.{◌≡◌, ◌<◌, ◌≤◌, ℕ, Bool, true, false, List, ◌++◌, drop, length, Option, None, Some, sym, ap, ◌∙◌, arith, append-nil, append_assoc}
 use Rattle.std.specs.Option.{option_map}
 use Rattle.std.proofs.lemmas.List.Elements.{filter_map-append}

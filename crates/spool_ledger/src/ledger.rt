@@ -1,5 +1,5 @@
-//! The ledger as a value: the list by its numbers and sizes, as decided, and as it was when works were last handed over,
-//! the works since, and the unload.
+//! The ledger as a value: the list by its numbers and sizes, as decided, and as it was when works were last handed
+//! over, the works since, and the unload.
 
 ghost use Rattle.std.specs.Prelude.{◌≡◌, ◌+◌, ◌^◌, ◌<◌, ◌≤◌, All, length, sum, IfOk};
 ghost use Rattle.gem_spool.specs.Works.{AreDue, counts_after};

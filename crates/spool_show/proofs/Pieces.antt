@@ -36,7 +36,8 @@ module _ {D : Type 0} (members : trait.Ghosts D) (v : SpoolView D) where
     count = is.made.calls.cause.same;
   }
 
-  pub look_failed : (w : SpoolView D) (k : ℕ) → HasLooked members v w k answer.Failed → HasShown members v w end.DiskFailed
+  pub look_failed : (w : SpoolView D) (k : ℕ) → HasLooked members v w k answer.Failed →
+      HasShown members v w end.DiskFailed
   look_failed w k is = record {
     same = is.same;
     told = is.told;
@@ -123,7 +124,8 @@ module _ {D : Type 0} (members : trait.Ghosts D) (v : SpoolView D) where
       (some, λ s is. absurd (no_message number s.now.bytes (none s is) (there s is)))
 
   -- whether it was looked for on the disk or not
-  pub missed_looked : (w : SpoolView D) (number : ℕ) (before into : List ℕ) → Looks members v w number before into look.Empty →
+  pub missed_looked : (w : SpoolView D) (number : ℕ) (before into : List ℕ) →
+      Looks members v w number before into look.Empty →
       HasShown members v w end.Done
   missed_looked w number before into (none, inl same) =
       subst (λ (u : SpoolView D). HasShown members v u end.Done) (sym same.0) (shown_none v)
@@ -242,7 +244,8 @@ module _ (before : Option Story) (known : Known) (rests : AreInHand before known
         (λ s is. (codes "\n", sym (whole s is))) (both e put)
 
     pub line_ends : (last : Option (List ℕ)) (d : SinkHealth) (done : List ℕ) (e : SpoolEnd) →
-        Puts before pieces (told mid next b c) page new end.Done → PutsText (codes "\n") (told next last c d) new done e →
+        Puts before pieces (told mid next b c) page new end.Done →
+        PutsText (codes "\n") (told next last c d) new done e →
         Puts before (line_of head.number) (told was last a d) old done e
     line_ends last d done e put more =
         puts_as before (told was last a d) old done

@@ -77,7 +77,8 @@ recovered_text before here k out e is rests shows =
     (recovered_list before out e (subst (λ t. ShowsList t out e) is shows))
 
 -- the same of the disk before it took the file
-pub shows_before : {f g h : Option (List ℕ)} {i k l : Option (List DiskCall)} {before mid after : Option Story} {m n : ℕ} {a b c : DiskHealth}
+pub shows_before : {f g h : Option (List ℕ)} {i k l : Option (List DiskCall)} {before mid after : Option Story}
+    {m n : ℕ} {a b c : DiskHealth}
     (out : SinkTold) (e : SpoolEnd) → mid ≡ before → b.faults ≡ a.faults
     → ShowsFile (disk_parts h g i l mid after n b c) out e → ShowsFile (disk_parts f g k l before after m a c) out e
 shows_before {before} {mid} {after} {a} {b} {c} out e is same shows = record {
@@ -97,7 +98,8 @@ failed_count {D} {members} old new most is =
     subst (λ n. Rose n (members.health new).faults) is.cause.same is.reads.cause.rose
 
 -- where a device wasn't recovered, nothing was written
-pub not_recovered : {D : Type 0} (members : trait.Ghosts D) {f g was : Option (List ℕ)} {k l : Option (List DiskCall)} {a : SinkHealth} (old : D)
+pub not_recovered : {D : Type 0} (members : trait.Ghosts D) {f g was : Option (List ℕ)} {k l : Option (List DiskCall)}
+    {a : SinkHealth} (old : D)
     (refusal : Recovering D) → Recovers members old (Err refusal)
     → ShowsFile
     (disk_parts f g k l (members.told old) (members.told (refused_disk refusal)) (members.size_is old)
@@ -117,8 +119,10 @@ not_recovered members old (recovering.Failed spent) (inr read, by) = record {
 }
 
 -- the list of a recovered file was shown
-pub shows_recovered : {D : Type 0} {members : trait.Ghosts D} {f g : Option (List ℕ)} {k l : Option (List DiskCall)} {out : SinkTold} (old : D)
-    (v w : SpoolView D) (e : SpoolEnd) → Recovers members old (Ok v) → HasShown members v w e → ShowsList (members.told v.disk) out e
+pub shows_recovered : {D : Type 0} {members : trait.Ghosts D} {f g : Option (List ℕ)} {k l : Option (List DiskCall)}
+    {out : SinkTold} (old : D)
+    (v w : SpoolView D) (e : SpoolEnd) → Recovers members old (Ok v) → HasShown members v w e
+    → ShowsList (members.told v.disk) out e
     → ShowsFile
     (disk_parts f g k l (members.told old) (members.told w.disk) (members.size_is old) (members.health old)
     (members.health w.disk)) out e
@@ -130,7 +134,8 @@ shows_recovered {D} {members} {out = out} old v w e (read, stands, by) shown sho
 }
 
 -- the file wasn't taken
-pub not_attached : {f g : Option (List ℕ)} {k l : Option (List DiskCall)} {before after : Option Story} {m : ℕ} {a b : DiskHealth} {was : Option (List ℕ)}
+pub not_attached : {f g : Option (List ℕ)} {k l : Option (List DiskCall)} {before after : Option Story} {m : ℕ}
+    {a b : DiskHealth} {was : Option (List ℕ)}
     {h : SinkHealth} → Attaches 0 before after → Rose a.faults b.faults
     → ShowsFile (disk_parts f g k l before after m a b) (told was was h h) end.DiskFailed
 not_attached is rose = record {
@@ -140,7 +145,8 @@ not_attached is rose = record {
 }
 
 -- the same of equal disks and ends
-pub shows_same : {f g : Option (List ℕ)} {k l : Option (List DiskCall)} {before before' after after' : Option Story} {m m' : ℕ} {a a' b b' : DiskHealth}
+pub shows_same : {f g : Option (List ℕ)} {k l : Option (List DiskCall)} {before before' after after' : Option Story}
+    {m m' : ℕ} {a a' b b' : DiskHealth}
     {e e' : SpoolEnd} (out : SinkTold) → before ≡ before' → after ≡ after' → m ≡ m' → a ≡ a' → b ≡ b' → e ≡ e'
     → ShowsFile (disk_parts f g k l before after m a b) out e
     → ShowsFile (disk_parts f g k l before' after' m' a' b') out e'
@@ -154,7 +160,8 @@ shows_same {f} {g} {k} {l} {before} {before'} {after} {after'} {m} {m'} {a} {a'}
     (subst (λ t. ShowsFile (disk_parts f g k l t after m a b) out e) one shows)))))
 
 -- a file was attached, and is so still
-pub has_file : (name : List ℕ) (before : Option (List ℕ)) {mid after : Option (List ℕ)} (e : SpoolEnd) → mid ≡ Some name → after ≡ mid
+pub has_file : (name : List ℕ) (before : Option (List ℕ)) {mid after : Option (List ℕ)} (e : SpoolEnd)
+    → mid ≡ Some name → after ≡ mid
     → HasFile name before after e
 has_file name before end.Done is same = same ∙ is
 has_file name before (end.NotSpool place) is same = same ∙ is

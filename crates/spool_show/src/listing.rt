@@ -23,8 +23,8 @@ use spool_slots::{OldestAnswer, Raw, Recovering, Spool};
 
 /// Writes how many slots the spool file of this name has, its mark, and its list, a line a message, oldest first. The
 /// disk takes the file as it is and keeps its list and mark. Where the disk or the output fails, a part of the lines
-/// was written, from the front, perhaps within a line. It takes no memory, and reads each slot of a message once behind a
-/// recovery.
+/// was written, from the front, perhaps within a line. It takes no memory, and reads each slot of a message once behind
+/// a recovery.
 pub fn show_spool<D: Disk, W: Sink>(disk: &mut D, file: &str, out: &mut W) -> SpoolEnd
     ensures { ShowsSpool file.now (disk_told D.Disk disk.old disk.new) (sink_told W.Sink out.old out.new) result }
 {

@@ -152,7 +152,8 @@ fn carry_one(
     out: &mut StepOut,
 ) -> Result<(), NoMemory>
     requires { length entry.now.body.now ≤ 7995148 }
-    ensures tables { IfOk result (λ done. state_of tables.new ≡ tables_with (state_of tables.old) (entry_of entry.now)) }
+    ensures tables { IfOk result (λ done. state_of tables.new
+        ≡ tables_with (state_of tables.old) (entry_of entry.now)) }
     ensures notes { IfOk result (λ done. out.new.notes
         ≡ out.old.notes ++ printed (carried_line (state_of tables.old) (entry_of entry.now) ∷ [])) }
     ensures line { out.new.line ≡ out.old.line }
@@ -174,8 +175,8 @@ fn carry_request(
 ) -> Result<(), NoMemory>
     requires { IsAsked request.now }
     ensures tables { IfOk result (λ done. state_of tables.new ≡ asked_after (Some request.now) (state_of tables.old)) }
-    ensures notes { IfOk result (λ done. out.new.notes
-        ≡ out.old.notes ++ refused_notes (option_map_or (accepts (state_of tables.old)) (change_in request.now) false)) }
+    ensures notes { IfOk result (λ done. out.new.notes ≡ out.old.notes
+        ++ refused_notes (option_map_or (accepts (state_of tables.old)) (change_in request.now) false)) }
     ensures line { out.new.line ≡ out.old.line }
 {
     let accepted = would_accept(alloc, request, tables)?;

@@ -71,7 +71,7 @@ impl Tool {
     }
 
     /// What comes behind the works of a step: what waits for them is answered; the oldest message, which was read, goes
-    /// to the host where it was to be taken up; spooling may end; the line gets its turn; and the step comes to its end.
+    /// to the host where it was to be taken up; spooling may end; the line gets its turn; and the step ends.
     pub fn do_last(
         &mut self,
         alloc: Global,

@@ -12,7 +12,6 @@ use Rattle.gem_trace.specs.declared.request.TraceRequest.{TraceRequest}
 use Rattle.message_flow.specs.declared.message.Message.{Message}
 use Rattle.setup_law.proofs.Notes.{request-rests}
 use Rattle.setup_law.specs.Setup.{list_in}
-use Rattle.setup_store.specs.Entries.{Entry}
 use Rattle.trace_log.specs.declared.commands.ToolCommand.{ToolCommand}
 use Rattle.trace_log.specs.declared.names.Title.{Title}
 use Rattle.trace_log.specs.Log.{Happening, Past}

@@ -39,8 +39,8 @@ abbrev pub count_of_reports : List ℕ → List Happening → ℕ
 count_of_reports body notes = count_of body (reports_in notes)
 
 -- what the equipment keeps is that of its notes, in which the tool has said this since the start, and it owes nothing;
--- there are events for all that it may report still, and for each S6F11 that was sent and may be put into the spool; and
--- the number that it has drawn by itself is that of a try
+-- there are events for all that it may report still, and for each S6F11 that was sent and may be put into the spool;
+-- and the number that it has drawn by itself is that of a try
 pub record Holds (plan : EquipmentPlan) (start : List Happening) (said : List ToolCommand) (own : OwnView)
     (drawn : Option ℕ)
     (notes : List Happening) : Type 0 where

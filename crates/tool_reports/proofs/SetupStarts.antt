@@ -12,7 +12,7 @@ use Rattle.equipment_tables.specs.declared.plan.EquipmentPlan.{EquipmentPlan}
 use Rattle.equipment_tables.specs.Laws.{TablesAreLookedBackFor}
 use Rattle.equipment_tables.specs.Plan.{EquipmentPlanFits}
 use Rattle.equipment_tables.specs.Setup.{accepts_primary, asked_of}
-use Rattle.equipment_tables.specs.Tables.{TablesState, after_past, planned_tables}
+use Rattle.equipment_tables.specs.Tables.{TablesState, planned_tables}
 use Rattle.tool_step.specs.Equipment.{setup_lines}
 use Rattle.tool_step.specs.Setup.{carried_lines, found_list, tables_with}
 use Rattle.tool_reports.proofs.RefusedEntries.{refused-entry}

@@ -171,8 +171,8 @@ abbrev pub is_no_space : Message → Bool
 is_no_space message =
     (is_of 2 34 message || is_of 2 36 message) && bytes_eq message.body (shortest_spelling (code_item 1))
 
--- a reply that answers a request which counts: any but S1F14, function 0, and one that says that there is no space, whose
--- requests change no table (SEMI E5, function)
+-- a reply that answers a request which counts: any but S1F14, function 0, and one that says that there is no space,
+-- whose requests change no table (SEMI E5, function)
 abbrev pub is_answer : Message → Bool
 is_answer message =
     ((not (message.function % 2 == 1) && not (message.function == 0)) && not (is_of 1 14 message))

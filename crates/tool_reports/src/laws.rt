@@ -37,8 +37,8 @@ pub fn tables_are_what_was_set()
     tables_are_looked_back_for();
 }
 
-/// Between any two steps, over all starts, the setup that the equipment keeps in memory is what its notes tell: the list
-/// that its start has found, with each primary behind it that was kept since. And no answer waits by then.
+/// Between any two steps, over all starts, the setup that the equipment keeps in memory is what its notes tell: the
+/// list that its start has found, with each primary behind it that was kept since. And no answer waits by then.
 pub fn setup_is_what_was_kept()
     ensures { SetupIsWhatWasKept }
 {

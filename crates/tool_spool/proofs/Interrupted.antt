@@ -51,8 +51,8 @@ use Rattle.spool_ledger.proofs.Widths.{used-is, widths-last, widths-rest}
 
 -- ---- numbers and room
 
--- the numbers are a chain up to the next one, and there are so many slots, of which the messages take no more; the floor
--- has the same bound as the numbers
+-- the numbers are a chain up to the next one, and there are so many slots, of which the messages take no more; the
+-- floor has the same bound as the numbers
 pub record StandsWell (slots : ℕ) (st : Standing) : Type 0 where
   pub first : ℕ
   pub chain : IsChainFrom first st.next st.file.list
@@ -104,7 +104,8 @@ module _ (slots : ℕ) where
       one : Message
       one = record { number = st.next; stream = stream; function = function; body = body }
 
-      within : IsWithin (is_too_long st.file.version st.file.slots (length body)) (slots_for (length body)) (count_in st)
+      within : IsWithin (is_too_long st.file.version st.file.slots (length body)) (slots_for (length body))
+          (count_in st)
           × ((count_in st).used + slots_for (length body) ≤ st.file.slots)
       within =
           fits_by (is_too_long st.file.version st.file.slots (length body)) (slots_for (length body)) (count_in st) fits

@@ -253,7 +253,8 @@ module _ (plan : EquipmentPlan) (held : Option (List Entry)) where
 
     keep-leaves :
         (lists : ListsAreReadAsSpelled) (list : Option (List Entry)) (went : Went EquipmentView Happening)
-        (st : Standing) (front lines tail : List Happening) → has_change lines ≡ false → AreStill lines → IsTail slots base went tail
+        (st : Standing) (front lines tail : List Happening) → has_change lines ≡ false → AreStill lines
+        → IsTail slots base went tail
         → list_in held (noted_behind front base) ≡ list
         → GoesToRest went (noted_behind (front ++ (lines ++ tail)) base) → setup_in st.file ≡ list
         → AtEach LeftAt st front (keep_works went ++ read_works went) (lines ++ tail)
@@ -280,7 +281,8 @@ module _ (plan : EquipmentPlan) (held : Option (List Entry)) where
 
     pub works-leave :
         (lists : ListsAreReadAsSpelled) (list : Option (List Entry)) (works : List Work)
-        (went : Went EquipmentView Happening) (st : Standing) (front lines tail : List Happening) → Cuts works lines → AreStill lines → IsTail slots base went tail
+        (went : Went EquipmentView Happening) (st : Standing) (front lines tail : List Happening) → Cuts works lines
+        → AreStill lines → IsTail slots base went tail
         → list_in held (noted_behind front base) ≡ list → keeping_in (noted_behind front base) ≡ None
         → KeepsSetup plan held (noted_behind (front ++ (lines ++ tail)) base)
         → GoesToRest went (noted_behind (front ++ (lines ++ tail)) base) → setup_in st.file ≡ list

@@ -365,7 +365,8 @@ module _ (policy : Policy) where
         closed = inr refl;
       }
         where
-          by : (why : Cause) → why ≢ cause.Purged → MayLeaveAt (DiskWork.Change (work.DropOldest (oldest_of v.sizes))) (Some why)
+          by : (why : Cause) → why ≢ cause.Purged
+              → MayLeaveAt (DiskWork.Change (work.DropOldest (oldest_of v.sizes))) (Some why)
           by cause.Confirmed not = inl refl
           by cause.Purged not = absurd (not refl)
           by cause.Overwritten not = inr refl
@@ -483,9 +484,11 @@ module _ (policy : Policy) where
 
             go : (full : Bool) → is_full w.slots w.sizes (size_of message) ≡ full
                 → (IsShelvedFor (Some message) policy less list base told_less
-                → IsShelvedFor (Some message) policy (room_made (size_of message) (Some message) sizes less).next list base
+                → IsShelvedFor (Some message) policy
+                (room_made (size_of message) (Some message) sizes less).next list base
                 (noted_behind (room_made (size_of message) (Some message) sizes less).lines told_less))
-                → IsShelvedFor (Some message) policy (made_if (size_of message) (Some message) full sizes w).next list base
+                → IsShelvedFor (Some message) policy
+                (made_if (size_of message) (Some message) full sizes w).next list base
                 (noted_behind (made_if (size_of message) (Some message) full sizes w).lines ns)
             go true e rest =
                 let taken = taken-is (IsMadeFor (Some message)) w list base ns good so in

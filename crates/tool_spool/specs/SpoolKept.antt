@@ -32,8 +32,8 @@ is_purge _ = false
 abbrev pub sizes_of : List (ℕ × Spooled) → List ℕ
 sizes_of stands = map (λ one. size_of one.1) stands
 
--- a body has at most a mebibyte; there is room for it where it and all that stand take no more slots than there are; and
--- OverWriteSpool is looked back for (SEMI E30, spooling)
+-- a body has at most a mebibyte; there is room for it where it and all that stand take no more slots than there are;
+-- and OverWriteSpool is looked back for (SEMI E30, spooling)
 abbrev pub policy_of : EquipmentPlan → ℕ → Policy
 policy_of plan slots = record {
   purges = λ message. is_purge (request_of message.stream message.function message.body);

@@ -1,4 +1,4 @@
-//! What holds of the spool of the equipment.
+//! What holds of the spool of the equipment, and of the setup that it keeps.
 
 ghost use Rattle.tool_spool.specs.InPairs.{WorksAreInPairs};
 ghost use Rattle.tool_spool.specs.LeavesInStep.{MessagesLeaveInStep};
@@ -16,9 +16,9 @@ use setup_store::lists_are_read_as_spelled;
 use tool_law::equipment_keeps_the_law;
 
 /// Over all its starts, from an empty spool on, and from whatever a file holds that it is started over, what is stored
-/// has room and goes behind all others; what leaves is the oldest, and it leaves once the host has taken it, as the host
-/// empties the spool, or as it is overwritten for one that has no room; what is tried is the oldest, and goes out as it
-/// was put; and each start finds what stood.
+/// has room and goes behind all others; what leaves is the oldest, and it leaves once the host has taken it, as the
+/// host empties the spool, or as it is overwritten for one that has no room; what is tried is the oldest, and goes out
+/// as it was put; and each start finds what stood.
 pub fn spool_is_kept()
     ensures notes { SpoolIsKept }
     ensures held { SpoolIsKeptFrom }

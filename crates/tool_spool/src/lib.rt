@@ -1,4 +1,4 @@
-//! What the spool of the equipment holds, over all its starts.
+//! What the spool and the setup of the equipment hold, over all its starts.
 #![tactic(auto)]
 
 mod laws;

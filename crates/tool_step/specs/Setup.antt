@@ -58,8 +58,8 @@ carried_lines t (entry ∷ list) = carried_line t entry ∷ carried_lines (table
 
 -- ---- what is kept of a request
 
--- the list behind one of the six primaries that change the setup, where it isn't refused; None behind any other request,
--- and where there is no area
+-- the list behind one of the six primaries that change the setup, where it isn't refused; None behind any other
+-- request, and where there is no area
 abbrev pub next_kept : TablesRequest → Message → OwnView → Option (List Entry)
 next_kept asked message own =
     if is_kept message.stream message.function && accepts_request own.tables asked

@@ -146,7 +146,8 @@ pub record IsKeptSo : Type 0 where
 -- report 10 is there already, and this is kept
 abbrev pub with_ten : List Entry → EquipmentView
 with_ten list =
-    with_own (λ own. with_setup list (with_tables (asked_after (Some (defines 10)) own.tables) own)) (tool_with (Some []))
+    with_own (λ own. with_setup list (with_tables (asked_after (Some (defines 10)) own.tables) own))
+    (tool_with (Some []))
 
 -- a list with as many bytes as are kept, and with one entry more
 abbrev pub filling : Entry
