@@ -1,0 +1,4 @@
+pub mod Anew
+pub mod Asking
+pub mod Reaching
+pub mod StepEnds

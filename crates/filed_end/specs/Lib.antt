@@ -1,0 +1,4 @@
+pub mod Breaking
+pub mod Form
+pub mod InMemory
+pub mod LeftAnew
