@@ -1,0 +1,2 @@
+mod Drops
+mod Dropped
