@@ -4,7 +4,8 @@ use Rattle.std.proofs.Math.Nat.{min-le_right}
 use Rattle.std.specs.List.{sum_by}
 use Rattle.std.specs.Option.{option_map_or}
 use Rattle.disk_base.specs.Calls.{DiskCall}
-use Rattle.message_end.specs.Ends.{Asked, most_asked, room_behind}
+use Rattle.message_end.specs.Ends.{Asked, Loss, Reach, asked_both, most_asked, passing, room_behind}
+use Rattle.message_end.specs.Ends.Passing.{Lacks}
 use Rattle.message_end.proofs.Passing.{lacks-short}
 use Rattle.setup_store.specs.Copies.{gate_look, kept_length, list_look, load_calls, names_list, value_looks}
 use Rattle.spool_file.specs.File.{SpoolFile}
@@ -41,9 +42,9 @@ reads-few file = of file.setup.bytes
     of (Some bytes) = calls-few
 
 -- a start leaves room for more than 62,000 calls and 64,000,000 bytes
-record IsRoomy (used : Asked) : Type 0 where
-  calls : 62000 ≤ (room_behind most_asked used).calls
-  bytes : 64000000 ≤ (room_behind most_asked used).bytes
+pub record IsRoomy (used : Asked) : Type 0 where
+  pub calls : 62000 ≤ (room_behind most_asked used).calls
+  pub bytes : 64000000 ≤ (room_behind most_asked used).bytes
 
 module _ (start : EquipmentView) (most : start.file.slots ≤ 1024) (has : length start.file.list ≤ start.file.slots)
   where
@@ -65,23 +66,29 @@ module _ (start : EquipmentView) (most : start.file.slots ≤ 1024) (has : lengt
 few : (behind left asked room : ℕ) → room ≤ behind → (behind - left) + asked < room → left < asked → ⊥
 few behind left asked room most below short = omega (arith, most, below, short)
 
+-- so there is room for all calls of a step, whatever has a disk
+module _ {S : Type 0} (used : Asked) (room : IsRoomy used) (reach : Reach) (lost : List (Loss S)) (asked : Asked)
+    (calls_are : length lost ≡ asked.calls) (bytes_are : sum_by (λ (loss : Loss S). loss.bytes) lost ≡ asked.bytes)
+  where
+    abbrev all : Asked
+    all = asked_both (room_behind (room_behind most_asked used) reach.room) asked
+
+    pub finds-room : all.calls < 32768 → all.bytes < 33554432 → (loss : Loss S) → passing reach lost ≡ Lacks loss → ⊥
+    finds-room calls bytes loss lacks = go (lacks-short reach lost loss lacks)
+      where
+        go : (reach.room.calls < length lost)
+            ⊎ (reach.room.bytes < sum_by (λ (loss : Loss S). loss.bytes) lost) → ⊥
+        go (inl short) =
+            few (room_behind most_asked used).calls reach.room.calls asked.calls 32768
+            (let some = room.calls in omega (arith, some)) calls
+            (subst (λ (n : ℕ). reach.room.calls < n) calls_are short)
+        go (inr short) =
+            few (room_behind most_asked used).bytes reach.room.bytes asked.bytes 33554432
+            (let some = room.bytes in omega (arith, some)) bytes
+            (subst (λ (n : ℕ). reach.room.bytes < n) bytes_are short)
+
 pub few-find-room : {H : Type 0} → LossesAreCounted → FewCallsFindRoom H
 few-find-room counted start used world input of most has calls bytes full =
-    go (lacks-short world.reach (losses world.equipment input world.moment) full.1.0 full.1.1)
-  where
-    room : IsRoomy used
-    room = roomy start most has used of
-
-    asked : Asked
-    asked = asks world.equipment input world.moment
-
-    go : (world.reach.room.calls < length (losses world.equipment input world.moment))
-        ⊎ (world.reach.room.bytes < sum_by (λ loss. loss.bytes) (losses world.equipment input world.moment)) → ⊥
-    go (inl short) =
-        few (room_behind most_asked used).calls world.reach.room.calls asked.calls 32768
-        (let some = room.calls in omega (arith, some)) calls
-        (subst (λ (n : ℕ). world.reach.room.calls < n) (counted world.equipment input world.moment).0.0 short)
-    go (inr short) =
-        few (room_behind most_asked used).bytes world.reach.room.bytes asked.bytes 33554432
-        (let some = room.bytes in omega (arith, some)) bytes
-        (subst (λ (n : ℕ). world.reach.room.bytes < n) (counted world.equipment input world.moment).0.1 short)
+    finds-room used (roomy start most has used of) world.reach (losses world.equipment input world.moment)
+    (asks world.equipment input world.moment) (counted world.equipment input world.moment).0.0
+    (counted world.equipment input world.moment).0.1 calls bytes full.1.0 full.1.1

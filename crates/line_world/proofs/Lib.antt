@@ -1,24 +1,25 @@
 mod Asking
-mod AtOnce
-mod Behind
+pub mod AtOnce
+pub mod Behind
 mod Bodies
 mod Carried
 mod Claims
 mod CutStarts
 mod CutSteps
-mod Disks
+pub mod Disks
 mod Emptied
-mod Events
-mod FewCalls
+pub mod Events
+pub mod FewCalls
 mod Lines
 mod Made
-mod NotedSteps
-mod OrderSoFar
+pub mod Noted
+pub mod NotedSteps
+pub mod OrderSoFar
 mod OverStarts
-mod Replies
+pub mod Replies
 mod RoundEvents
 mod SampledLog
-mod SoFar
-mod Spool
+pub mod SoFar
+pub mod Spool
 mod Summed
 mod Tries

@@ -6,6 +6,7 @@ use Rattle.end_pair.specs.InSteps.AreSteps.{both_start, line_changes, one_step, 
 use Rattle.end_pair.specs.InSteps.ComeInSteps.{at_a_step, in_a_step, without_power}
 use Rattle.end_pair.specs.Laws.{AreNoNotes, IsOfMoves}
 use Rattle.end_pair.specs.Noted.{timed_by}
+use Rattle.equipment_tables.specs.declared.plan.Plans.{Plans}
 use Rattle.gl_base.specs.declared.side.Side.{Side}
 use Rattle.gl_base.specs.declared.side.Side.TheVariants.{Equipment, Host}
 use Rattle.gl_base.specs.Side.{is_same_side}
@@ -21,7 +22,7 @@ use Rattle.trace_log.specs.Log.{Entry, Happening}
 use Rattle.trace_log.specs.Log.Entry.{Ended, Noted, Slipped}
 use Rattle.trace_log.specs.Log.Happening.{Power, StepEnded}
 use Rattle.line_world.specs.Safe.{HostDid, plans_of}
-use Rattle.line_world.specs.Steps.{IsOfAStep, MayStepBehind, NotesAreOfSteps, SafeLogsHaveSteps}
+use Rattle.line_world.specs.Steps.{HasSteps, IsOfAStep, MayStepBehind, NotesAreOfSteps, SafeLogsHaveSteps}
 
 -- what an end has noted, with the moments
 abbrev timed_at : Side → List Move → List (ℕ × Happening)
@@ -280,14 +281,17 @@ no-notes-timed side (Noted moment end what ∷ last) log none = absurd none.0
 no-notes-timed side (Slipped moment end frame characters ∷ last) log none = no-notes-timed side last log none.1
 no-notes-timed side (Ended moment ∷ last) log none = no-notes-timed side last log none.1
 
-pub have-steps : SafeLogsHaveSteps
-have-steps plans log safe = record { equipment = of Equipment; host = of Host }
+-- whatever the host is
+pub are-in-steps :
+    {T : Type 0} (plans : Plans) (host : ℕ → List Doing → T → Type 0) (log : List Entry)
+    → IsOfMoves (DidOf plans.equipment) host (plans_of plans) log → HasSteps log
+are-in-steps plans host log moved = record { equipment = of Equipment; host = of Host }
   where
-    moved : IsOfMoves (DidOf plans.equipment) (HostDid plans.host) (plans_of plans) log
-    moved = safe.in_order.moved
-
     of : (side : Side) → NotesAreOfSteps (timed_by side log)
     of side =
         subst NotesAreOfSteps
         (sym (ap (timed_by side) moved.is ∙ no-notes-timed side moved.last (log_of moved.moves) moved.no_notes))
-        (all-timed (DidOf plans.equipment) (HostDid plans.host) (plans_of plans) side moved.moves moved.steps)
+        (all-timed (DidOf plans.equipment) host (plans_of plans) side moved.moves moved.steps)
+
+pub have-steps : SafeLogsHaveSteps
+have-steps plans log safe = are-in-steps plans (HostDid plans.host) log safe.in_order.moved

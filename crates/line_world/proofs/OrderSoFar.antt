@@ -1,15 +1,17 @@
 -- That messages come in order at each entry of a log: a front of its moves has the entries so far.
-use Rattle.std.proofs.Common.{◌≡◌, List, [], ◌∷◌, ◌++◌, Option, Some, None}
+use Rattle.std.proofs.Common.{◌≡◌, ℕ, List, [], ◌∷◌, ◌++◌, Option, Some, None}
 use Rattle.delivery.specs.Order.{AreInOrder}
-use Rattle.end_pair.specs.Laws.{AreNoNotes}
+use Rattle.end_pair.specs.Laws.{AreNoNotes, IsOfMoves}
 use Rattle.equipment_tables.specs.declared.plan.Plans.{Plans}
 use Rattle.gl_base.specs.declared.side.Side.{Side}
 use Rattle.line_order.specs.Acts.{Act, Deed, HasNoSlip}
 use Rattle.line_order.specs.Line.{Line, new_line}
+use Rattle.message_end.specs.Doings.{Doing}
 use Rattle.message_end.specs.Log.{log_of, noted_at, with_note}
 use Rattle.message_end.specs.Moves.{KeepLaws, Move, act_of, deeds_of, with_act}
+use Rattle.tool_law.specs.Laws.{DidOf}
 use Rattle.trace_log.specs.Log.{Entry, Happening}
-use Rattle.line_world.specs.Safe.{ComesInOrder, HasComeInOrder, plans_of}
+use Rattle.line_world.specs.Safe.{HasComeInOrder, plans_of}
 
 tail : {X : Type 0} (x y : X) (xs ys : List X) → x ∷ xs ≡ y ∷ ys → xs ≡ ys
 tail x y xs ys same = cc
@@ -19,15 +21,19 @@ slip-less : (line : Line) (side : Side) (act : Option Act) (deeds : List Deed)
 slip-less line side None deeds none = none
 slip-less line side (Some act) deeds none = none.1
 
-pub order-at : (plans : Plans) (log : List Entry) → ComesInOrder plans log → HasComeInOrder plans log
-order-at plans log comes = record {
-  moves = comes.moved.moves;
-  keep = comes.moved.keep;
-  no_slip = comes.moved.no_slip;
-  in_order = comes.in_order;
-  last = comes.moved.last;
-  no_notes = comes.moved.no_notes;
-  is = comes.moved.is;
+-- whatever the host is
+pub order-at :
+    {T : Type 0} (plans : Plans) (host : ℕ → List Doing → T → Type 0) (log : List Entry)
+    (moved : IsOfMoves (DidOf plans.equipment) host (plans_of plans) log) → AreInOrder (plans_of plans) moved.moves
+    → HasComeInOrder plans log
+order-at plans host log moved order = record {
+  moves = moved.moves;
+  keep = moved.keep;
+  no_slip = moved.no_slip;
+  in_order = order;
+  last = moved.last;
+  no_notes = moved.no_notes;
+  is = moved.is;
 }
 
 module _ (plans : Plans) (entry : Entry) (log : List Entry) where

@@ -5,6 +5,7 @@ use Rattle.end_pair.specs.InSteps.{AreAtStates, ComeInSteps, IsFate}
 use Rattle.end_pair.specs.Laws.{AreNoNotes, IsOfMoves}
 use Rattle.end_pair.specs.Noted.{noted_by}
 use Rattle.end_pair.proofs.AtEachMove.{AreKept, at-each-move}
+use Rattle.equipment_tables.specs.declared.plan.Plans.{Plans}
 use Rattle.gl_base.specs.declared.side.Side.{Side}
 use Rattle.gl_base.specs.declared.side.Side.TheVariants.{Equipment, Host}
 use Rattle.message_end.specs.Doings.{Doing, IsLawful}
@@ -28,9 +29,9 @@ use Rattle.trace_log.specs.Log.Happening.{Power}
 use Rattle.message_end.proofs.NotedSteps.{plain-note}
 use Rattle.tool_law.specs.Laws.{DidOf}
 use Rattle.line_world.proofs.AtOnce.{replies-at-once}
-use Rattle.line_world.proofs.NotedSteps.{have-steps}
+use Rattle.line_world.proofs.NotedSteps.{are-in-steps}
 use Rattle.line_world.specs.Safe.{HostDid, plans_of}
-use Rattle.line_world.specs.Steps.{SafeLogsReplyInSteps}
+use Rattle.line_world.specs.Steps.{ReplyInSteps, SafeLogsReplyInSteps}
 
 -- what one end has done since its start
 abbrev doings_at : Side → LinePlans → List Move → List Doing
@@ -243,37 +244,44 @@ module _ (plans : LinePlans) where
       at-move side move.side move.moment move.kind rest _ keep.0 kept.0 (all-noted side rest keep.1 kept.1)
 
 -- what stands behind the moves is no note
-no-notes : (side : Side) (last log : List Entry) → AreNoNotes last → noted_by side (last ++ log) ≡ noted_by side log
+pub no-notes : (side : Side) (last log : List Entry) → AreNoNotes last → noted_by side (last ++ log) ≡ noted_by side log
 no-notes side [] log none = refl
 no-notes side (Noted moment end what ∷ last) log none = absurd none.0
 no-notes side (Slipped moment end frame characters ∷ last) log none = no-notes side last log none.1
 no-notes side (Ended moment ∷ last) log none = no-notes side last log none.1
 
-pub replies-in-steps : SafeLogsReplyInSteps
-replies-in-steps plans log safe = record {
+-- whatever the host is, if its doings keep that
+pub replies-go :
+    {T : Type 0} (plans : Plans) (host : ℕ → List Doing → T → Type 0)
+    → ((base : ℕ) (doings : List Doing) (t : T) → host base doings t
+    → ReplyInTheirSteps (plan_at Host (plans_of plans)) doings)
+    → (log : List Entry) → IsOfMoves (DidOf plans.equipment) host (plans_of plans) log → ReplyInSteps log
+replies-go plans host replied log moved = record {
   equipment = by_equipment;
   host = by_host;
-  equipment_at_once = replies-at-once Equipment log (have-steps plans log safe).equipment by_equipment;
-  host_at_once = replies-at-once Host log (have-steps plans log safe).host by_host;
+  equipment_at_once = replies-at-once Equipment log (are-in-steps plans host log moved).equipment by_equipment;
+  host_at_once = replies-at-once Host log (are-in-steps plans host log moved).host by_host;
 }
   where
-    moved : IsOfMoves (DidOf plans.equipment) (HostDid plans.host) (plans_of plans) log
-    moved = safe.in_order.moved
-
     of : (side : Side)
-        → ((moves : List Move)
-        → AreAtStates (DidOf plans.equipment) (HostDid plans.host) (plans_of plans) moves
+        → ((moves : List Move) → AreAtStates (DidOf plans.equipment) host (plans_of plans) moves
         → replied_at (plans_of plans) side moves)
         → RepliesAreOfSteps side (noted_by side log)
     of side law =
         subst (RepliesAreOfSteps side)
         (sym (ap (noted_by side) moved.is ∙ no-notes side moved.last (log_of moved.moves) moved.no_notes))
         (all-noted (plans_of plans) side moved.moves moved.keep
-        (replies-keep (plans_of plans) (DidOf plans.equipment) (HostDid plans.host) side law moved.moves
-        moved.steps)).replies
+        (replies-keep (plans_of plans) (DidOf plans.equipment) host side law moved.moves moved.steps)).replies
 
     by_equipment : RepliesAreOfSteps Equipment (noted_by Equipment log)
     by_equipment = of Equipment (λ moves at. at.equipment_did.is.steps.replies)
 
     by_host : RepliesAreOfSteps Host (noted_by Host log)
-    by_host = of Host (λ moves at. at.host_did.is.steps.replies)
+    by_host =
+        of Host (λ moves at.
+        replied (run_at Host (plans_of plans) moves).base (run_at Host (plans_of plans) moves).doings
+        at.state_of_host at.host_did)
+
+pub replies-in-steps : SafeLogsReplyInSteps
+replies-in-steps plans log safe =
+    replies-go plans (HostDid plans.host) (λ base doings t did. did.is.steps.replies) log safe.in_order.moved

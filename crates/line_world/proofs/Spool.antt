@@ -1,5 +1,5 @@
 -- The spool in the log of a run is kept, and the host takes its messages in order.
-use Rattle.std.proofs.Common.{◌≡◌, ◌++◌, List, [], ◌∷◌, refl, ap, subst, sym, ◌∙◌}
+use Rattle.std.proofs.Common.{◌≡◌, ◌++◌, ℕ, List, [], ◌∷◌, refl, ap, subst, sym, ◌∙◌}
 use Rattle.end_pair.specs.Laws.{AreNoNotes, IsOfMoves}
 use Rattle.end_pair.specs.Noted.{noted_by}
 use Rattle.tool_law.specs.Laws.{DidOf}
@@ -7,6 +7,7 @@ use Rattle.tool_spool.specs.SpoolKept.{policy_of}
 use Rattle.equipment_tables.specs.Plan.{PlansFit}
 use Rattle.equipment_tables.specs.declared.plan.Plans.{Plans}
 use Rattle.gl_base.specs.declared.side.Side.TheVariants.{Equipment, Host}
+use Rattle.message_end.specs.Doings.{Doing}
 use Rattle.message_end.specs.Log as moves
 use Rattle.spool_delivery.specs.Account.{account_of}
 use Rattle.spool_delivery.specs.Claims.{IsTakenInOrder, TakenInOrder, equipment_notes}
@@ -15,7 +16,7 @@ use Rattle.spool_law.specs.Shelf.{KeepsSpool, Policy}
 use Rattle.trace_log.specs.Log.{Entry, Happening}
 use Rattle.trace_log.specs.Log.Entry.{Ended, Noted, Slipped}
 use Rattle.line_world.proofs.Tries.{keeps-tries}
-use Rattle.line_world.specs.Safe.{HoldsSpool, HostDid, plans_of}
+use Rattle.line_world.specs.Safe.{HoldsSpool, plans_of}
 
 -- what the equipment has noted is said in two ways
 same-notes : (log : List Entry) → noted_by Equipment log ≡ equipment_notes log
@@ -37,7 +38,7 @@ newest : (log : List Entry) → TakenInOrder log → IsTakenInOrder (account_of 
 newest [] taken = record { later = []; is = refl }
 newest (entry ∷ before) taken = taken.0
 
-taken-behind : (policy : Policy) (last log : List Entry) → AreNoNotes last → IsSpoolTaken policy log
+pub taken-behind : (policy : Policy) (last log : List Entry) → AreNoNotes last → IsSpoolTaken policy log
     → IsSpoolTaken policy (last ++ log)
 taken-behind policy [] log none is = is
 taken-behind policy (Noted moment side what ∷ last) log none is = absurd none.0
@@ -48,29 +49,28 @@ taken-behind policy (Ended moment ∷ last) log none is =
     let rest = taken-behind policy last log none.1 is in
     record { kept = (tt, rest.kept); taken = (newest (last ++ log) rest.taken, rest.taken) }
 
-module _ (plans : Plans) (fit : PlansFit plans) (law : SpoolIsTakenInOrder) (log : List Entry)
-    (notes : KeepsSpool (policy_of plans.equipment plans.slots) (noted_by Equipment log))
-    (moved : IsOfMoves (DidOf plans.equipment) (HostDid plans.host) (plans_of plans) log) where
-  abbrev policy : Policy
-  policy = policy_of plans.equipment plans.slots
+module _ {T : Type 0} (plans : Plans) (host : ℕ → List Doing → T → Type 0) (log : List Entry)
+    (kept : KeepsSpool (policy_of plans.equipment plans.slots) (noted_by Equipment log))
+    (moved : IsOfMoves (DidOf plans.equipment) host (plans_of plans) log)
+  where
+    abbrev policy : Policy
+    policy = policy_of plans.equipment plans.slots
 
-  -- the notes of the moves
-  moved-notes : KeepsSpool policy (equipment_notes (moves.log_of moved.moves))
-  moved-notes =
-      subst (KeepsSpool policy)
-      (same-notes log ∙ ap equipment_notes moved.is ∙ notes-behind moved.last (moves.log_of moved.moves) moved.no_notes)
-      notes
+    -- the notes of the moves
+    pub moved-notes : noted_by Equipment log ≡ equipment_notes (moves.log_of moved.moves)
+    moved-notes =
+        same-notes log ∙ ap equipment_notes moved.is
+        ∙ notes-behind moved.last (moves.log_of moved.moves) moved.no_notes
 
-  pub holds-spool : HoldsSpool plans log
-  holds-spool =
-      let keep : KeepSpoolLaws policy (plans_of plans) moved.moves = record {
-        ends = moved.keep;
-        notes = moved-notes;
-        tries = keeps-tries plans (HostDid plans.host) moved.moves moved.steps;
-      }
-      in
-      let taken =
-      law policy (plans_of plans) moved.moves fit.equipment.line.times fit.host.line.times moved.no_slip keep
-      in
-      subst (IsSpoolTaken policy) (sym moved.is)
-      (taken-behind policy moved.last (moves.log_of moved.moves) moved.no_notes taken)
+    pub spool-laws : KeepSpoolLaws policy (plans_of plans) moved.moves
+    spool-laws = record {
+      ends = moved.keep;
+      notes = subst (KeepsSpool policy) moved-notes kept;
+      tries = keeps-tries plans host moved.moves moved.steps;
+    }
+
+    pub holds-spool : PlansFit plans → SpoolIsTakenInOrder → HoldsSpool plans log
+    holds-spool fit law =
+        subst (IsSpoolTaken policy) (sym moved.is)
+        (taken-behind policy moved.last (moves.log_of moved.moves) moved.no_notes
+        (law policy (plans_of plans) moved.moves fit.equipment.line.times fit.host.line.times moved.no_slip spool-laws))

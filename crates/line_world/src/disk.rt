@@ -1,4 +1,4 @@
-//! The disk of a world's spool.
+//! The disk of a spool in a world.
 
 ghost use Rattle.std.specs.Prelude.{◌≤◌, IfOk};
 ghost use Rattle.line_world.specs.Disk.{IsEmptySpool};
@@ -13,7 +13,7 @@ use std::alloc::Global;
 /// An empty spool of so many slots and of version 2, on a disk in memory that is made for it. Only memory may be
 /// wanting. The disk has room to spare at its planned stop, so that power can be lost at a call for which there is no
 /// room.
-pub(crate) fn empty_spool(alloc: Global, slots: u32) -> Result<Spool<MemDisk>, NoMemory>
+pub fn empty_spool(alloc: Global, slots: u32) -> Result<Spool<MemDisk>, NoMemory>
     requires some { 1 ≤ slots }
     requires most { slots ≤ 1024 }
     ensures { IfOk result (λ spool. IsEmptySpool slots spool) }

@@ -1,5 +1,7 @@
-//! What a safe log says at each of its entries, and made rounds that can be followed by hand.
+//! What the claims of a log rest on, what a safe log says at each of its entries, and made rounds that can be followed
+//! by hand.
 
+ghost use Rattle.line_world.specs.Below.{LawsHold};
 ghost use Rattle.line_world.specs.FewCalls.{FewCallsFindRoom};
 ghost use Rattle.line_world.specs.Safe.{HoldsAtEachEntry};
 ghost use Rattle.line_world.specs.Steps.{SafeLogsHaveSteps, SafeLogsReplyInSteps};
@@ -7,8 +9,31 @@ ghost use Rattle.line_world.specs.Worked.{WorkedRounds};
 ghost use Rattle.line_world.specs.WorkedSamples.{DataOutOfTurn};
 ghost use Rattle.line_world.specs.WorkedSteps.{LateReplies};
 
+use delivery::ends_deliver;
+use equipment_tables::tables_are_looked_back_for;
+use gem_trace::{few_traces_run, what_runs_is_looked_back_for};
 use setup_law::kept_setup_holds;
+use spool_delivery::spool_is_taken_in_order;
+use tool_reports::reports_are_of_their_events;
+use tool_spool::{messages_leave_in_step, overwrites_for_puts, setup_is_kept, spool_is_kept};
 use tool_step::losses_are_counted;
+
+/// What the crates below promise of a tool and of a line, whatever the host is: all that the claims of a log rest on.
+pub fn laws_hold()
+    ensures { LawsHold }
+{
+    ends_deliver();
+    spool_is_taken_in_order();
+    reports_are_of_their_events();
+    spool_is_kept();
+    messages_leave_in_step();
+    overwrites_for_puts();
+    setup_is_kept();
+    kept_setup_holds();
+    tables_are_looked_back_for();
+    what_runs_is_looked_back_for();
+    few_traces_run();
+}
 
 /// What is said of a safe log holds at each of its entries, by all entries up to that one.
 pub fn holds_at_each_entry()

@@ -10,20 +10,15 @@ ghost use Rattle.line_world.specs.Run.{Runs, log_of, piece_of, seen};
 ghost use Rattle.line_world.specs.Safe.{IsSafe};
 
 use crate::disk::empty_spool;
-use delivery::ends_deliver;
+use crate::laws::laws_hold;
 use end_pair::{RunEnd, World, entries_are_of_courses, never_full, runs_are_moves};
 use equipment_node::EquipmentEnd;
-use equipment_tables::{Plans, tables_are_looked_back_for};
-use gem_trace::{few_traces_run, what_runs_is_looked_back_for};
+use equipment_tables::Plans;
 use gl_base::Sink;
 use host_node::Host;
 use line_schedule::Schedule;
 use message_end::End;
-use setup_law::kept_setup_holds;
-use spool_delivery::spool_is_taken_in_order;
 use std::alloc::Global;
-use tool_reports::reports_are_of_their_events;
-use tool_spool::{messages_leave_in_step, overwrites_for_puts, setup_is_kept, spool_is_kept};
 
 /// Carries out a schedule on the line between a tool and its host, losses of the tool's power included, and writes the
 /// trace of what both note. The log of that trace is safe, up to the first slip: each message delivered was sent by the
@@ -61,17 +56,7 @@ pub fn run<W: Sink>(
     ensures store { result.0 ≢ JournalFull }
     ensures safe { IsSafe plans.now (log_of plans.now schedule.now) }
 {
-    ends_deliver();
-    spool_is_taken_in_order();
-    reports_are_of_their_events();
-    spool_is_kept();
-    messages_leave_in_step();
-    overwrites_for_puts();
-    setup_is_kept();
-    kept_setup_holds();
-    tables_are_looked_back_for();
-    what_runs_is_looked_back_for();
-    few_traces_run();
+    laws_hold();
     entries_are_of_courses::<EquipmentEnd, Host>();
     runs_are_moves::<EquipmentEnd, Host>();
     never_full::<EquipmentEnd, Host>();
