@@ -2,7 +2,7 @@
 use Rattle.std.proofs.Common.{◌≡◌, ◌∙◌, ◌++◌, ℕ, List, [], ◌∷◌, codes, Option, Some, refl, ap}
 use Rattle.std.specs.Option.{option_map, option_zip}
 use Rattle.clap.proofs.OnLiterals.{clap_on_literals}
-use Rattle.command_words.specs.Asked.{Asked, Host}
+use Rattle.command_words.specs.Asked.{Asked, Host, JournalReplay}
 use Rattle.command_words.specs.Forms.{app_for}
 use Rattle.command_words.specs.Laws.{TakesAllBehindHyphens}
 use Rattle.command_words.specs.Numbers.{number_in}
@@ -19,6 +19,12 @@ host_polls : (plan address polls : List ℕ)
 unfolding clap_on_literals app_for refusals found_in
 host_polls plan address polls = refl
 
+journal_slots : (plan schedule slots : List ℕ)
+    → asked_of (codes "replay" ∷ (codes "--journal=" ++ slots) ∷ codes "--" ∷ plan ∷ schedule ∷ [])
+    ≡ option_map (JournalReplay plan schedule) (number_in 1 1024 slots)
+unfolding clap_on_literals app_for refusals found_in
+journal_slots plan schedule slots = refl
+
 pub takes_all : TakesAllBehindHyphens
 unfolding clap_on_literals app_for refusals found_in
 takes_all = record {
@@ -27,5 +33,10 @@ takes_all = record {
   host = λ plan address. refl;
   polls = λ plan address polls n is. host_polls plan address polls ∙ ap (host_with plan address) is;
   outside = λ plan address polls is. host_polls plan address polls ∙ ap (host_with plan address) is;
+  journal = λ plan address journal. refl;
+  slots = λ plan schedule slots n is.
+      journal_slots plan schedule slots ∙ ap (option_map (JournalReplay plan schedule)) is;
+  slots_outside = λ plan schedule slots is.
+      journal_slots plan schedule slots ∙ ap (option_map (JournalReplay plan schedule)) is;
   spool = λ spool. refl;
 }

@@ -20,5 +20,6 @@ refuses_others word words other =
       differs word _ other.host,
       differs word _ other.format,
       differs word _ other.spool,
+      differs word _ other.drop,
       differs word _ other.make,
     ) refl

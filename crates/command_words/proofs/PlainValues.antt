@@ -7,7 +7,7 @@ use Rattle.clap.specs.Kinds.{or_else}
 use Rattle.clap.specs.Simple.{Shape, built}
 use Rattle.clap.specs.Walk.{Held, finished, is_empty, nothing_held, rows_after}
 use Rattle.clap.specs.Words.{Kinds, Text}
-use Rattle.command_words.specs.Asked.{Asked, Format, Make}
+use Rattle.command_words.specs.Asked.{Asked, Drop, Format, Make}
 use Rattle.command_words.specs.Forms.{app_for}
 use Rattle.command_words.specs.Laws.{IsPlain, TakesPlainWords}
 use Rattle.command_words.specs.Numbers.{number_in}
@@ -30,6 +30,7 @@ level_of name.Equipment words = leaf_fault (built (app_for name.Equipment)) noth
 level_of name.Host words = leaf_fault (built (app_for name.Host)) nothing_held words refl
 level_of name.Format words = leaf_fault (built (app_for name.Format)) nothing_held words refl
 level_of name.Spool words = leaf_fault (built (app_for name.Spool)) nothing_held words refl
+level_of name.Drop words = leaf_fault (built (app_for name.Drop)) nothing_held words refl
 level_of name.Make words = leaf_fault (built (app_for name.Make)) nothing_held words refl
 
 rows_of : (n : Name) (words : List Text) → found_in n words ≡ rows_after (top_of n).rules [] words
@@ -41,6 +42,7 @@ rows_of name.Equipment words = refl
 rows_of name.Host words = refl
 rows_of name.Format words = refl
 rows_of name.Spool words = refl
+rows_of name.Drop words = refl
 rows_of name.Make words = refl
 
 -- a name with plain values that are not refused is the command of what they leave
@@ -62,6 +64,16 @@ format_asked file slots plain_file plain_slots =
 abbrev format_with : Text → Option ℕ → Option Asked
 format_with file slots = option_map (λ parts. Format parts.0 parts.1) (option_zip (Some file) slots)
 
+drop_asked : (file count : Text) → IsPlain file → IsPlain count
+    → asked_behind name.Drop (file ∷ count ∷ [])
+    ≡ option_map (λ parts. Drop parts.0 parts.1) (option_zip (Some file) (number_in 1 65535 count))
+unfolding app_for defaults_fault
+drop_asked file count plain_file plain_count =
+    asked_is name.Drop (goes plain_file refl (goes plain_count refl ends)) refl
+
+abbrev drop_with : Text → Option ℕ → Option Asked
+drop_with file count = option_map (λ parts. Drop parts.0 parts.1) (option_zip (Some file) count)
+
 make_asked : (rounds : Text) → IsPlain rounds
     → asked_behind name.Make (rounds ∷ []) ≡ option_map Make (number_in 1 10000 rounds)
 unfolding app_for defaults_fault
@@ -81,6 +93,10 @@ takes_plain = record {
   outside = λ file slots plain_file plain_slots is.
       format_asked file slots plain_file plain_slots ∙ ap (format_with file) is;
   spool = λ spool plain. asked_is name.Spool (goes plain refl ends) refl;
+  drop = λ file count n plain_file plain_count is.
+      drop_asked file count plain_file plain_count ∙ ap (drop_with file) is;
+  too_many = λ file count plain_file plain_count is.
+      drop_asked file count plain_file plain_count ∙ ap (drop_with file) is;
   make = λ rounds n plain is. make_asked rounds plain ∙ ap (option_map Make) is;
   beyond = λ rounds plain is. make_asked rounds plain ∙ ap (option_map Make) is;
 }

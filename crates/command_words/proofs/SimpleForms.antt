@@ -4,7 +4,7 @@ use Rattle.clap.specs.Words.{is_simple_and_free}
 use Rattle.clap.proofs.OnLiterals.{clap_on_literals}
 use Rattle.command_words.specs.Forms.{app_for}
 use Rattle.command_words.specs.declared.names.Name.{Name}
-use Rattle.command_words.specs.declared.names.Name.TheVariants.{Show, Spell, Replay, Equipment, Host, Format, Spool, Make}
+use Rattle.command_words.specs.declared.names.Name.TheVariants.{Show, Spell, Replay, Equipment, Host, Format, Spool, Drop, Make}
 
 pub is_simple_for : (name : Name) → is_simple_and_free (app_for name) ≡ true
 unfolding clap_on_literals app_for
@@ -15,4 +15,5 @@ is_simple_for Equipment = refl
 is_simple_for Host = refl
 is_simple_for Format = refl
 is_simple_for Spool = refl
+is_simple_for Drop = refl
 is_simple_for Make = refl

@@ -6,7 +6,7 @@ use Rattle.clap.specs.declared.builder.action.ArgAction.TheVariants.{SetTrue}
 use Rattle.command_words.specs.declared.forms.Role.{Role}
 use Rattle.command_words.specs.declared.forms.Role.TheVariants as role
 use Rattle.command_words.specs.declared.names.Name.{Name}
-use Rattle.command_words.specs.declared.names.Name.TheVariants.{Show, Spell, Replay, Equipment, Host, Format, Spool, Make}
+use Rattle.command_words.specs.declared.names.Name.TheVariants.{Show, Spell, Replay, Equipment, Host, Format, Spool, Drop, Make}
 
 -- A value stands in its place and must be given. An option is written `--id VALUE` or `--id=VALUE`, and a flag `--id`;
 -- both may be missing.
@@ -31,10 +31,12 @@ app_with name values options flags =
 unfoldable pub app_for : Name → App
 app_for Show = app_with (codes "show") [] [] []
 app_for Spell = app_with (codes "spell") [] [] (codes "hex" ∷ [])
-app_for Replay = app_with (codes "replay") (codes "PLAN" ∷ codes "SCHEDULE" ∷ []) [] []
+app_for Replay = app_with (codes "replay") (codes "PLAN" ∷ codes "SCHEDULE" ∷ []) (codes "journal" ∷ []) []
 app_for Equipment =
     app_with (codes "equipment") (codes "PLAN" ∷ codes "ADDRESS" ∷ codes "SPOOL" ∷ []) (codes "polls" ∷ []) []
-app_for Host = app_with (codes "host") (codes "PLAN" ∷ codes "ADDRESS" ∷ []) (codes "polls" ∷ []) []
+app_for Host =
+    app_with (codes "host") (codes "PLAN" ∷ codes "ADDRESS" ∷ []) (codes "journal" ∷ codes "polls" ∷ []) []
 app_for Format = app_with (codes "format") (codes "SPOOL" ∷ codes "SLOTS" ∷ []) [] []
 app_for Spool = app_with (codes "spool") (codes "SPOOL" ∷ []) [] []
+app_for Drop = app_with (codes "drop") (codes "SPOOL" ∷ codes "N" ∷ []) [] []
 app_for Make = app_with (codes "make") (codes "N" ∷ []) [] []

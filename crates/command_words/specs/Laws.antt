@@ -1,6 +1,6 @@
 -- What holds of all words.
 use Rattle.std.specs.Prelude.{◌≡◌, ◌≢◌, ◌==◌, ◌++◌, ℕ, Bool, true, not, List, [], ◌∷◌, codes, Some, None}
-use Rattle.command_words.specs.Asked.{Equipment, Format, Host, Make, Replay, Spool}
+use Rattle.command_words.specs.Asked.{Drop, Equipment, Format, Host, JournalHost, JournalReplay, Make, Replay, Spool}
 use Rattle.command_words.specs.Numbers.{number_in}
 use Rattle.command_words.specs.Words.{asked_of}
 
@@ -13,6 +13,7 @@ pub record IsNoName (word : List ℕ) : Type 0 where
   pub host : word ≢ codes "host"
   pub format : word ≢ codes "format"
   pub spool : word ≢ codes "spool"
+  pub drop : word ≢ codes "drop"
   pub make : word ≢ codes "make"
 
 -- words that begin with no name are refused
@@ -45,6 +46,12 @@ pub record TakesPlainWords : Type 0 where
       (spool slots : List ℕ) → IsPlain spool → IsPlain slots → number_in 1 65535 slots ≡ None
       → asked_of (codes "format" ∷ spool ∷ slots ∷ []) ≡ None
   pub spool : (spool : List ℕ) → IsPlain spool → asked_of (codes "spool" ∷ spool ∷ []) ≡ Some (Spool spool)
+  pub drop :
+      (spool count : List ℕ) (n : ℕ) → IsPlain spool → IsPlain count → number_in 1 65535 count ≡ Some n
+      → asked_of (codes "drop" ∷ spool ∷ count ∷ []) ≡ Some (Drop spool n)
+  pub too_many :
+      (spool count : List ℕ) → IsPlain spool → IsPlain count → number_in 1 65535 count ≡ None
+      → asked_of (codes "drop" ∷ spool ∷ count ∷ []) ≡ None
   pub make :
       (rounds : List ℕ) (n : ℕ) → IsPlain rounds → number_in 1 10000 rounds ≡ Some n
       → asked_of (codes "make" ∷ rounds ∷ []) ≡ Some (Make n)
@@ -52,7 +59,7 @@ pub record TakesPlainWords : Type 0 where
       (rounds : List ℕ) → IsPlain rounds → number_in 1 10000 rounds ≡ None
       → asked_of (codes "make" ∷ rounds ∷ []) ≡ None
 
--- behind `--` any words at all are values, and behind `--polls=` any text is
+-- behind `--` any words at all are values, and behind `--polls=` and `--journal=` any text is
 pub record TakesAllBehindHyphens : Type 0 where
   pub replay :
       (plan schedule : List ℕ)
@@ -71,4 +78,15 @@ pub record TakesAllBehindHyphens : Type 0 where
   pub outside :
       (plan address polls : List ℕ) → number_in 1 4294967295 polls ≡ None
       → asked_of (codes "host" ∷ (codes "--polls=" ++ polls) ∷ codes "--" ∷ plan ∷ address ∷ []) ≡ None
+  pub journal :
+      (plan address journal : List ℕ)
+      → asked_of (codes "host" ∷ (codes "--journal=" ++ journal) ∷ codes "--" ∷ plan ∷ address ∷ [])
+      ≡ Some (JournalHost plan address journal 1000000)
+  pub slots :
+      (plan schedule slots : List ℕ) (n : ℕ) → number_in 1 1024 slots ≡ Some n
+      → asked_of (codes "replay" ∷ (codes "--journal=" ++ slots) ∷ codes "--" ∷ plan ∷ schedule ∷ [])
+      ≡ Some (JournalReplay plan schedule n)
+  pub slots_outside :
+      (plan schedule slots : List ℕ) → number_in 1 1024 slots ≡ None
+      → asked_of (codes "replay" ∷ (codes "--journal=" ++ slots) ∷ codes "--" ∷ plan ∷ schedule ∷ []) ≡ None
   pub spool : (spool : List ℕ) → asked_of (codes "spool" ∷ codes "--" ∷ spool ∷ []) ≡ Some (Spool spool)

@@ -4,14 +4,14 @@ use Rattle.std.specs.Option.{option_and_then, option_map, option_map_or, option_
 use Rattle.clap.specs.Walk.{is_empty, rows_of}
 use Rattle.clap.specs.Words.{Kinds, Row, Text, fault_of, first_of, found_of, matches_of}
 use Rattle.clap.specs.declared.parser.matches.ArgMatches.{ArgMatches}
-use Rattle.command_words.specs.Asked.{Asked, asked_by, Equipment as AskedEquipment, Format as AskedFormat, Host as AskedHost, Make as AskedMake, Replay as AskedReplay, Show as AskedShow, Spell as AskedSpell, SpellHex as AskedSpellHex, Spool as AskedSpool}
+use Rattle.command_words.specs.Asked.{Asked, asked_by, Drop as AskedDrop, Equipment as AskedEquipment, Format as AskedFormat, Host as AskedHost, JournalHost, JournalReplay, Make as AskedMake, Replay as AskedReplay, Show as AskedShow, Spell as AskedSpell, SpellHex as AskedSpellHex, Spool as AskedSpool}
 use Rattle.command_words.specs.Forms.{app_for}
 use Rattle.command_words.specs.Numbers.{number_in}
 use Rattle.command_words.specs.declared.command.Command.{Command}
 use Rattle.command_words.specs.declared.command.WordsFault.{WordsFault}
 use Rattle.command_words.specs.declared.command.WordsFault.TheVariants.{Usage, NoMemory}
 use Rattle.command_words.specs.declared.names.Name.{Name}
-use Rattle.command_words.specs.declared.names.Name.TheVariants.{Show, Spell, Replay, Equipment, Host, Format, Spool, Make}
+use Rattle.command_words.specs.declared.names.Name.TheVariants.{Show, Spell, Replay, Equipment, Host, Format, Spool, Drop, Make}
 
 -- the name that a word is, spelled exactly so
 abbrev pub name_of : Text → Option Name
@@ -23,6 +23,7 @@ name_of word =
     else if bytes_eq word (codes "host") then Some Host
     else if bytes_eq word (codes "format") then Some Format
     else if bytes_eq word (codes "spool") then Some Spool
+    else if bytes_eq word (codes "drop") then Some Drop
     else if bytes_eq word (codes "make") then Some Make else None
 
 -- why `clap` refuses the words behind a name: nothing, where it takes them
@@ -40,25 +41,39 @@ is_set id rows = option_map_or (λ text. bytes_eq text (codes "true")) (first_of
 abbrev pub polls_in : List Row → Option ℕ
 polls_in rows = option_map_or (number_in 1 4294967295) (first_of (codes "polls") rows) (Some 1000000)
 
+-- a replay, over a journal of so many slots where they are said; none where that number is out of its range
+abbrev pub replay_of : Text → Text → Option Text → Option Asked
+replay_of plan schedule None = Some (AskedReplay plan schedule)
+replay_of plan schedule (Some slots) = option_map (JournalReplay plan schedule) (number_in 1 1024 slots)
+
+-- a host, with a journal where its file is said
+abbrev pub host_of : Text → Text → ℕ → Option Text → Asked
+host_of plan address polls None = AskedHost plan address polls
+host_of plan address polls (Some journal) = JournalHost plan address journal polls
+
 -- the command that a name is with what was found; none where a number is out of its range
 abbrev pub meant_by : Name → List Row → Option Asked
 meant_by Show rows = Some AskedShow
 meant_by Spell rows = Some (if is_set (codes "hex") rows then AskedSpellHex else AskedSpell)
 meant_by Replay rows =
-    option_map (λ files. AskedReplay files.0 files.1)
+    option_and_then (λ files. replay_of files.0 files.1 (first_of (codes "journal") rows))
     (option_zip (first_of (codes "PLAN") rows) (first_of (codes "SCHEDULE") rows))
 meant_by Equipment rows =
     option_map (λ parts. AskedEquipment parts.0 parts.1.0 parts.1.1.0 parts.1.1.1)
     (option_zip (first_of (codes "PLAN") rows) (option_zip (first_of (codes "ADDRESS") rows)
     (option_zip (first_of (codes "SPOOL") rows) (polls_in rows))))
 meant_by Host rows =
-    option_map (λ parts. AskedHost parts.0 parts.1.0 parts.1.1)
+    option_map (λ parts. host_of parts.0 parts.1.0 parts.1.1 (first_of (codes "journal") rows))
     (option_zip (first_of (codes "PLAN") rows) (option_zip (first_of (codes "ADDRESS") rows) (polls_in rows)))
 meant_by Format rows =
     option_map (λ parts. AskedFormat parts.0 parts.1)
     (option_zip (first_of (codes "SPOOL") rows)
     (option_and_then (number_in 1 65535) (first_of (codes "SLOTS") rows)))
 meant_by Spool rows = option_map AskedSpool (first_of (codes "SPOOL") rows)
+meant_by Drop rows =
+    option_map (λ parts. AskedDrop parts.0 parts.1)
+    (option_zip (first_of (codes "SPOOL") rows)
+    (option_and_then (number_in 1 65535) (first_of (codes "N") rows)))
 meant_by Make rows = option_map AskedMake (option_and_then (number_in 1 10000) (first_of (codes "N") rows))
 
 -- the command of a name and the words behind it

@@ -4,7 +4,7 @@ ghost use Rattle.std.specs.Prelude.{◌≡◌, ◌≤◌, ◌∷◌, IfOk, IfSom
 ghost use Rattle.clap.specs.Walk.{rows_of};
 ghost use Rattle.clap.specs.Words.{found_of};
 ghost use Rattle.command_words.specs.Asked.{IsInRange, asked_by};
-ghost use Rattle.command_words.specs.Words.{Answers, asked_behind, asked_of, meant_by, polls_in};
+ghost use Rattle.command_words.specs.Words.{Answers, asked_behind, asked_of, host_of, meant_by, polls_in, replay_of};
 
 use crate::names::{Name, name_of};
 use crate::numbers::number_in;
@@ -12,8 +12,11 @@ use crate::parsing::{is_set, matches_for, text_of};
 use clap::ArgMatches;
 use std::alloc::Global;
 
-// How many slots a spool file has at most.
+// How many slots a spool file has at most, and so how many messages.
 const SLOTS_MOST: u32 = 65535;
+
+// How many slots a journal in memory has at most.
+const JOURNAL_MOST: u32 = 1024;
 
 // How many rounds are made at most.
 const ROUNDS_MOST: u32 = 10_000;
@@ -35,6 +38,12 @@ pub enum Command<'a> {
         plan: &'a str,
         schedule: &'a str,
     },
+    /// The same, with a host that may restart: it has a journal of so many slots, in memory.
+    JournalReplay {
+        plan: &'a str,
+        schedule: &'a str,
+        slots: u32,
+    },
     /// Run the equipment's end of a line with the peer that calls at an address, over a spool file, up to so many
     /// polls.
     Equipment {
@@ -49,6 +58,13 @@ pub enum Command<'a> {
         address: &'a str,
         polls: u32,
     },
+    /// The same of a host that lists what it takes in a journal, a spool file.
+    JournalHost {
+        plan: &'a str,
+        address: &'a str,
+        journal: &'a str,
+        polls: u32,
+    },
     /// Make a spool file of so many slots.
     Format {
         spool: &'a str,
@@ -57,6 +73,11 @@ pub enum Command<'a> {
     /// Write the list of a spool file.
     Spool {
         spool: &'a str,
+    },
+    /// Drop so many of the first messages of a spool file, or all where there are fewer.
+    Drop {
+        spool: &'a str,
+        count: u32,
     },
     /// Write the summary of the trace of so many made rounds.
     Make {
@@ -127,6 +148,7 @@ fn meant_by<'a>(name: Name, matches: &ArgMatches<'a>) -> Option<Command<'a>>
         Name::Host => host(matches),
         Name::Format => format(matches),
         Name::Spool => spool(matches),
+        Name::Drop => drop_first(matches),
         Name::Make => make(matches),
     }
 }
@@ -147,7 +169,26 @@ fn replay<'a>(matches: &ArgMatches<'a>) -> Option<Command<'a>>
 {
     let plan = text_of(matches, "PLAN")?;
     let schedule = text_of(matches, "SCHEDULE")?;
-    Some(Command::Replay { plan, schedule })
+    replay_of(plan, schedule, text_of(matches, "journal"))
+}
+
+// A replay, over a journal of so many slots where they are said.
+fn replay_of<'a>(plan: &'a str, schedule: &'a str, slots: Option<&'a str>) -> Option<Command<'a>>
+    ensures command { option_map asked_by result
+        ≡ replay_of plan.now schedule.now (option_map (λ text. text.now) slots.entry) }
+    ensures range { IfSome result (λ command. IsInRange (asked_by command)) }
+{
+    match slots {
+        Some(text) => {
+            let slots = number_in(1, JOURNAL_MOST, text)?;
+            Some(Command::JournalReplay {
+                plan,
+                schedule,
+                slots,
+            })
+        }
+        None => Some(Command::Replay { plan, schedule }),
+    }
 }
 
 fn equipment<'a>(matches: &ArgMatches<'a>) -> Option<Command<'a>>
@@ -173,11 +214,29 @@ fn host<'a>(matches: &ArgMatches<'a>) -> Option<Command<'a>>
     let plan = text_of(matches, "PLAN")?;
     let address = text_of(matches, "ADDRESS")?;
     let polls = polls_in(matches)?;
-    Some(Command::Host {
-        plan,
-        address,
-        polls,
-    })
+    Some(host_of(plan, address, polls, text_of(matches, "journal")))
+}
+
+// A host, with a journal where its file is said.
+fn host_of<'a>(plan: &'a str, address: &'a str, polls: u32, journal: Option<&'a str>) -> Command<'a>
+    requires least { 1 ≤ polls }
+    requires most { polls ≤ 4294967295 }
+    ensures command { asked_by result ≡ host_of plan.now address.now polls (option_map (λ text. text.now) journal.entry) }
+    ensures range { IsInRange (asked_by result) }
+{
+    match journal {
+        Some(journal) => Command::JournalHost {
+            plan,
+            address,
+            journal,
+            polls,
+        },
+        None => Command::Host {
+            plan,
+            address,
+            polls,
+        },
+    }
 }
 
 // How many polls are made at most.
@@ -207,6 +266,15 @@ fn spool<'a>(matches: &ArgMatches<'a>) -> Option<Command<'a>>
 {
     let spool = text_of(matches, "SPOOL")?;
     Some(Command::Spool { spool })
+}
+
+fn drop_first<'a>(matches: &ArgMatches<'a>) -> Option<Command<'a>>
+    ensures command { option_map asked_by result ≡ meant_by Name.Drop (rows_of (found_of matches.now)) }
+    ensures range { IfSome result (λ command. IsInRange (asked_by command)) }
+{
+    let spool = text_of(matches, "SPOOL")?;
+    let count = number_in(1, SLOTS_MOST, text_of(matches, "N")?)?;
+    Some(Command::Drop { spool, count })
 }
 
 fn make<'a>(matches: &ArgMatches<'a>) -> Option<Command<'a>>

@@ -27,7 +27,7 @@ pub(crate) fn app_for<'a>(alloc: Global, name: Name) -> Result<Command<'a>, Allo
     match name {
         Name::Show => app_with(alloc, "show", &[], &[], &[]),
         Name::Spell => app_with(alloc, "spell", &[], &[], &["hex"]),
-        Name::Replay => app_with(alloc, "replay", &["PLAN", "SCHEDULE"], &[], &[]),
+        Name::Replay => app_with(alloc, "replay", &["PLAN", "SCHEDULE"], &["journal"], &[]),
         Name::Equipment => app_with(
             alloc,
             "equipment",
@@ -35,9 +35,16 @@ pub(crate) fn app_for<'a>(alloc: Global, name: Name) -> Result<Command<'a>, Allo
             &["polls"],
             &[],
         ),
-        Name::Host => app_with(alloc, "host", &["PLAN", "ADDRESS"], &["polls"], &[]),
+        Name::Host => app_with(
+            alloc,
+            "host",
+            &["PLAN", "ADDRESS"],
+            &["journal", "polls"],
+            &[],
+        ),
         Name::Format => app_with(alloc, "format", &["SPOOL", "SLOTS"], &[], &[]),
         Name::Spool => app_with(alloc, "spool", &["SPOOL"], &[], &[]),
+        Name::Drop => app_with(alloc, "drop", &["SPOOL", "N"], &[], &[]),
         Name::Make => app_with(alloc, "make", &["N"], &[], &[]),
     }
 }

@@ -13,6 +13,7 @@ pub(crate) enum Name {
     Host,
     Format,
     Spool,
+    Drop,
     Make,
 }
 
@@ -34,6 +35,8 @@ pub(crate) fn name_of(word: &str) -> Option<Name>
         Some(Name::Format)
     } else if word == "spool" {
         Some(Name::Spool)
+    } else if word == "drop" {
+        Some(Name::Drop)
     } else if word == "make" {
         Some(Name::Make)
     } else {

@@ -8,7 +8,7 @@ use Rattle.gemline_app.specs.declared.hex_input.HexFault.{HexFault}
 use Rattle.gemline_app.specs.declared.hex_input.HexFault.TheVariants as hex_fault
 use Rattle.gemline_app.proofs.HexLaws.{read_break}
 use Rattle.gemline_app.specs.declared.outcome.Outcome.{Outcome}
-use Rattle.gemline_app.specs.declared.outcome.Outcome.TheVariants.{Done, Usage, BadFrame, BadText, BadHex, BadItem, BadLine, Longer, FileLonger, FileFailed, ReadFailed, NoMemory, WriteFailed, TurnsSpent, NumbersSpent, Slip, DiskFailed, NotSpool, BadPlan, BadScript, LinkFailed}
+use Rattle.gemline_app.specs.declared.outcome.Outcome.TheVariants.{Done, Usage, BadFrame, BadText, BadHex, BadItem, BadLine, Longer, FileLonger, FileFailed, ReadFailed, NoMemory, WriteFailed, TurnsSpent, NumbersSpent, Slip, DiskFailed, NotSpool, BadPlan, BadScript, LinkFailed, JournalFull}
 
 hex_refuses : (digits bytes : List ℕ) (refusal : Outcome) → HexMeans bytes digits → ItemRefuses bytes refusal
     → HexRefuses digits refusal
@@ -33,6 +33,7 @@ hex_refuses digits bytes Slip means refuses = absurd refuses
 hex_refuses digits bytes (BadPlan key what) means refuses = absurd refuses
 hex_refuses digits bytes (BadScript number) means refuses = absurd refuses
 hex_refuses digits bytes LinkFailed means refuses = absurd refuses
+hex_refuses digits bytes JournalFull means refuses = absurd refuses
 
 -- what bytes give, their hex gives
 pub hex_answers : (digits bytes : List ℕ) (answer : Result (List ℕ) Outcome) → HexMeans bytes digits

@@ -1,6 +1,6 @@
 -- Which outcome is due, and when another one comes in its place.
 use Rattle.std.proofs.Common.{◌≡◌, ◌⊎◌, ◌≤◌, ℕ, true, List, length, Option, Some, None, Result, Ok, Err, refl, sym, ap, subst, ◌∙◌, inl, inr, arith}
-use Rattle.command_words.specs.Asked.{Asked, Equipment, Format, Host, Make, Replay, Show, Spell, SpellHex, Spool}
+use Rattle.command_words.specs.Asked.{Asked, Drop, Equipment, Format, Host, JournalHost, JournalReplay, Make, Replay, Show, Spell, SpellHex, Spool}
 use Rattle.command_words.specs.Words.{asked_of}
 use Rattle.gl_base.specs.Sink.{with_bytes}
 use Rattle.gl_base.specs.Told.{FilesTold, SinkTold, SourceTold}
@@ -28,14 +28,15 @@ use Rattle.gemline_app.specs.Outcome.{outcome_of_show, status_of}
 use Rattle.gemline_app.specs.Spelling.{text_place}
 use Rattle.gemline_app.specs.Words.{capture_limit, item_limit}
 use Rattle.gemline_app.specs.declared.outcome.Outcome.{Outcome}
-use Rattle.gemline_app.specs.declared.outcome.Outcome.TheVariants.{Done, Usage, BadFrame, BadText, BadHex, BadItem, BadLine, Longer, FileLonger, FileFailed, ReadFailed, NoMemory, WriteFailed, TurnsSpent, NumbersSpent, Slip, DiskFailed, NotSpool, BadPlan, BadScript, LinkFailed}
+use Rattle.gemline_app.specs.declared.outcome.Outcome.TheVariants.{Done, Usage, BadFrame, BadText, BadHex, BadItem, BadLine, Longer, FileLonger, FileFailed, ReadFailed, NoMemory, WriteFailed, TurnsSpent, NumbersSpent, Slip, DiskFailed, NotSpool, BadPlan, BadScript, LinkFailed, JournalFull}
 use Rattle.gemline_app.proofs.HexLaws.{means_read, one_break}
 use Rattle.gemline_app.proofs.EquipmentDue.{equipment_due}
 use Rattle.gemline_app.proofs.HostDue.{host_due}
 use Rattle.gemline_app.proofs.InputDue.{input_due, read_of}
+use Rattle.gemline_app.proofs.JournalDue.{journal_due}
 use Rattle.gemline_app.proofs.MakeDue.{make_due}
 use Rattle.gemline_app.proofs.ReplayDue.{Comes, replay_due}
-use Rattle.gemline_app.proofs.SpoolDue.{formatted_due, listed_due}
+use Rattle.gemline_app.proofs.SpoolDue.{dropped_due, formatted_due, listed_due}
 
 -- ---- a command of its whole input
 
@@ -76,6 +77,7 @@ written_due source files disk link out line Slip written = absurd written
 written_due source files disk link out line (BadPlan key what) written = absurd written
 written_due source files disk link out line (BadScript number) written = absurd written
 written_due source files disk link out line LinkFailed written = absurd written
+written_due source files disk link out line JournalFull written = absurd written
 
 -- what a text is refused for
 text_refused : (text : List ℕ) (refusal : Outcome) → TextRefuses text refusal →
@@ -101,6 +103,7 @@ text_refused text Slip refuses = absurd refuses
 text_refused text (BadPlan key what) refuses = absurd refuses
 text_refused text (BadScript number) refuses = absurd refuses
 text_refused text LinkFailed refuses = absurd refuses
+text_refused text JournalFull refuses = absurd refuses
 
 pub hex_refused : (digits : List ℕ) (refusal : Outcome) → HexRefuses digits refusal →
     (refusal ≡ NoMemory) ⊎ HexAsks digits refusal
@@ -125,6 +128,7 @@ hex_refused digits Slip refuses = absurd refuses
 hex_refused digits (BadPlan key what) refuses = absurd refuses
 hex_refused digits (BadScript number) refuses = absurd refuses
 hex_refused digits LinkFailed refuses = absurd refuses
+hex_refused digits JournalFull refuses = absurd refuses
 
 -- a text asks for one outcome
 one_text : (text : List ℕ) (a b : Outcome) → TextAsks text a → TextAsks text b → a ≡ b
@@ -221,17 +225,26 @@ comes_due (Some SpellHex) source files disk link out outcome due (files_unread, 
     (λ digits was asks. printed_due digits source files disk link out outcome due was asks) comes is_due
 comes_due (Some (Replay plan schedule)) source files disk link out outcome due (unread, unused, uncalled, comes)
     (bytes, told, is_due) =
-    replay_due source files disk link out plan schedule bytes outcome due told comes is_due
+    replay_due source files disk link out None plan schedule bytes outcome due told comes is_due
+comes_due (Some (JournalReplay plan schedule slots)) source files disk link out outcome due
+    (unread, unused, uncalled, comes) (bytes, told, is_due) =
+    replay_due source files disk link out (Some slots) plan schedule bytes outcome due told comes is_due
 comes_due (Some (Equipment plan address spool polls)) source files disk link out outcome due (comes, connects, tells)
     is_due =
     equipment_due source files disk link out plan spool polls outcome due comes is_due
 comes_due (Some (Host plan address polls)) source files disk link out outcome due (unused, comes, connects) is_due =
     host_due source files disk link out plan polls outcome due comes is_due
+comes_due (Some (JournalHost plan address journal polls)) source files disk link out outcome due
+    (comes, connects, tells) is_due =
+    journal_due source files disk link out plan journal polls outcome due comes is_due
 comes_due (Some (Format spool slots)) source files disk link out outcome due (unread, files_unread, uncalled, was)
     is_due =
     formatted_due source files disk link out spool slots outcome due was is_due
 comes_due (Some (Spool spool)) source files disk link out outcome due (unread, files_unread, uncalled, was) is_due =
     listed_due source files disk link out spool outcome due was is_due
+comes_due (Some (Drop spool count)) source files disk link out outcome due (unread, files_unread, uncalled, was)
+    is_due =
+    dropped_due source files disk link out spool count outcome due was is_due
 comes_due (Some (Make rounds)) source files disk link out outcome due (unread, files_unread, unused, uncalled, comes)
     is_due =
     make_due source files disk link out rounds outcome due comes is_due
@@ -294,6 +307,7 @@ module _ (source : SourceTold) (files : FilesTold) (disk : DiskTold) (link : Lin
   unread_ends (BadPlan key what) was = absurd was
   unread_ends (BadScript number) was = absurd was
   unread_ends LinkFailed was = absurd was
+  unread_ends JournalFull was = absurd was
 
   show_ends : (outcome : Outcome) → RunComes (Some Show) source files disk link out outcome → Ends outcome
   show_ends outcome (inl refused) = inl (ap status_of refused.refused)

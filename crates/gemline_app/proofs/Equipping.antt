@@ -38,7 +38,8 @@ use Rattle.end_run.specs.Script.{ScriptLine}
 use Rattle.end_run.specs.declared.ending.Ending.{Ending}
 use Rattle.end_run.specs.declared.ending.Ending.TheVariants as ending
 use Rattle.gemline_app.specs.declared.equipment.LinkedEquipment.{LinkedEquipment}
-use Rattle.gemline_app.specs.Equipment.{HoldsLeft, RunsFrom, StartRefuses, bytes_told, equipment_run, one_call}
+use Rattle.gemline_app.specs.Equipment.{HoldsLeft, RunsFrom, StartRefuses, equipment_run, one_call}
+use Rattle.gemline_app.specs.Filed.{bytes_told}
 use Rattle.gemline_app.specs.LinkTold.{LinkTold}
 use Rattle.gemline_app.specs.Linked.{after_run, before_run}
 use Rattle.gemline_app.specs.LinkedEquipment.{Fixed, HoldsOne, IsGoing, IsKnown, IsLeftSo, LeavesDevice, device_by, device_of, disk_in, linked_view, outcome_of_start, spent_by, unstarted_disk}

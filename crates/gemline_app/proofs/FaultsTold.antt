@@ -1,26 +1,28 @@
 -- Each fault of the input, the files, the disk and the output is the outcome.
 use Rattle.std.proofs.Common.{◌≡◌, ℕ, Bool, false, List, Option, Some, None, refl, sym, subst, inl, inr}
-use Rattle.command_words.specs.Asked.{Asked, Equipment, Format, Host, Make, Replay, Show, Spell, SpellHex, Spool}
+use Rattle.command_words.specs.Asked.{Asked, Drop, Equipment, Format, Host, JournalHost, JournalReplay, Make, Replay, Show, Spell, SpellHex, Spool}
 use Rattle.command_words.specs.Words.{asked_of}
 use Rattle.gl_base.specs.Told.{FilesTold, SinkTold, SourceTold}
 use Rattle.line_world.specs.Making.{MakesRounds}
 use Rattle.end_pair.specs.declared.answers.RunEnd.{RunEnd}
 use Rattle.end_pair.specs.declared.answers.RunEnd.TheVariants as end
 use Rattle.spool_show.specs.Told.{DiskTold}
+use Rattle.spool_drop.specs.Dropping.{DropsMessages, DropsOf}
 use Rattle.spool_show.specs.Formatting.{FormatsSpool}
 use Rattle.spool_show.specs.Showing.{ShowsFile, ShowsSpool}
 use Rattle.spool_show.specs.declared.spool_end.SpoolEnd.{SpoolEnd}
 use Rattle.spool_show.specs.declared.spool_end.SpoolEnd.TheVariants as spool
 use Rattle.gemline_app.specs.LinkTold.{IsUncalled, LinkTold}
-use Rattle.gemline_app.specs.Spool.{EndedAs, outcome_of_spool}
+use Rattle.gemline_app.specs.Spool.{EndedAs, IsUnused, outcome_of_spool}
 use Rattle.gemline_app.proofs.SpoolDue.{rose_of}
 use Rattle.gemline_app.proofs.InputFaults.{CountsAll, CountsWrites, IsPlain, files_stand, input_counts, link_stands, others_stand, plain_counts, printed_counts, replay_counts, shown_counts, source_stands, spelled_counts, untouched, written_only}
-use Rattle.gemline_app.proofs.LinkFaults.{all_told, equipment_counts, host_counts}
+use Rattle.gemline_app.proofs.FiledFaults.{equipment_counts, journal_counts}
+use Rattle.gemline_app.proofs.LinkFaults.{all_told, host_counts}
 use Rattle.gemline_app.specs.Gemline.{ComesFrom, IsRefused, IsRun, RunComes, WasPrinted, WasShown, WasSpelled}
 use Rattle.gemline_app.specs.Inputs.{IsUnread}
 use Rattle.gemline_app.specs.Laws.{CountsFaults, IsCounted, is_disk_fault, is_file_fault, is_link_fault, is_read_fault, is_write_fault}
 use Rattle.gemline_app.specs.Make.{MakeComes, made_plans}
-use Rattle.gemline_app.specs.Replay.{outcome_of_end}
+use Rattle.gemline_app.specs.Replay.{ReplayComes, outcome_of_end}
 use Rattle.gemline_app.specs.Words.{capture_limit, item_limit}
 use Rattle.gemline_app.specs.Written.{AreUnread}
 use Rattle.gemline_app.specs.declared.outcome.Outcome.{Outcome}
@@ -56,6 +58,17 @@ by_listing disk out spool.DiskFailed was =
     record { read = refl; file = refl; on_disk = rose_of was.count; on_link = refl; write = was.written.1.health.same }
 by_listing disk out spool.WriteFailed was =
     record { read = refl; file = refl; on_disk = was.count; on_link = refl; write = was.written.1.1.fault.rose }
+
+by_dropping : (count : ℕ) (disk : DiskTold) (out : SinkTold) (ended : SpoolEnd) → DropsOf count disk out ended
+    → CountsDisk disk out (outcome_of_spool ended)
+by_dropping count disk out spool.Done was =
+    record { read = refl; file = refl; on_disk = was.count_is; on_link = refl; write = was.left.written.health.same }
+by_dropping count disk out (spool.NotSpool place) was =
+    record { read = refl; file = refl; on_disk = was.count_is; on_link = refl; write = was.left.0.health.same }
+by_dropping count disk out spool.DiskFailed was =
+    record { read = refl; file = refl; on_disk = rose_of was.count_is; on_link = refl; write = was.left.0.health.same }
+by_dropping count disk out spool.WriteFailed was =
+    record { read = refl; file = refl; on_disk = was.count_is; on_link = refl; write = was.left.written.fault.rose }
 
 spool_counts : (source : SourceTold) (files : FilesTold) (disk : DiskTold) (link : LinkTold) (out : SinkTold)
     (outcome : Outcome)
@@ -130,6 +143,24 @@ module _ (source : SourceTold) (files : FilesTold) (disk : DiskTold) (link : Lin
     write = untouched out refused.written;
   })
 
+replay_all : (journal : Option ℕ) (plan schedule : List ℕ) (source : SourceTold) (files : FilesTold) (disk : DiskTold)
+    (link : LinkTold) (out : SinkTold) (outcome : Outcome) → IsUnread source → IsUnused disk → IsUncalled link
+    → ReplayComes journal plan schedule files out outcome → CountsAll source files disk link out outcome
+replay_all journal plan schedule source files disk link out outcome unread unused uncalled comes =
+    let counts = replay_counts journal plan schedule files out outcome comes in
+    record {
+      read =
+          subst (λ (b : Bool). IsCounted b source.health.faults source.health_after.faults) (sym counts.read)
+          (source_stands source unread);
+      file = counts.file;
+      on_disk =
+          subst (λ (b : Bool). IsCounted b disk.health.faults disk.health_after.faults) (sym counts.on_disk)
+          unused.faults;
+      on_link = subst (λ (b : Bool). IsCounted b link.health.faults link.health_after.faults) (sym counts.on_link)
+          (link_stands link uncalled);
+      write = counts.write;
+    }
+
 comes_counts : (asked : Option Asked) (source : SourceTold) (files : FilesTold) (disk : DiskTold) (link : LinkTold)
     (out : SinkTold) (outcome : Outcome)
     → ComesFrom asked source files disk link out outcome → CountsFaults asked source files disk link out outcome
@@ -151,25 +182,20 @@ comes_counts (Some SpellHex) source files disk link out outcome (unread, unused,
     (others_stand files disk link unread unused uncalled)
     (λ digits was. printed_counts digits out outcome was) comes)
 comes_counts (Some (Replay plan schedule)) source files disk link out outcome (unread, unused, uncalled, comes) =
-    let counts = replay_counts plan schedule files out outcome comes in
     all_told (Some (Replay plan schedule)) source files disk link out outcome
-    (record {
-      read =
-          subst (λ (b : Bool). IsCounted b source.health.faults source.health_after.faults) (sym counts.read)
-          (source_stands source unread);
-      file = counts.file;
-      on_disk =
-          subst (λ (b : Bool). IsCounted b disk.health.faults disk.health_after.faults) (sym counts.on_disk)
-          unused.faults;
-      on_link = subst (λ (b : Bool). IsCounted b link.health.faults link.health_after.faults) (sym counts.on_link)
-          (link_stands link uncalled);
-      write = counts.write;
-    })
+    (replay_all None plan schedule source files disk link out outcome unread unused uncalled comes)
+comes_counts (Some (JournalReplay plan schedule slots)) source files disk link out outcome
+    (unread, unused, uncalled, comes) =
+    all_told (Some (JournalReplay plan schedule slots)) source files disk link out outcome
+    (replay_all (Some slots) plan schedule source files disk link out outcome unread unused uncalled comes)
 comes_counts (Some (Equipment plan address spool polls)) source files disk link out outcome (comes, connects, tells) =
     equipment_counts source files disk link out plan address spool polls outcome comes
 comes_counts (Some (Host plan address polls)) source files disk link out outcome (unused, comes, connects) =
     all_told (Some (Host plan address polls)) source files disk link out outcome
     (host_counts source files disk link out plan polls outcome unused comes)
+comes_counts (Some (JournalHost plan address journal polls)) source files disk link out outcome
+    (comes, connects, tells) =
+    journal_counts source files disk link out plan address journal polls outcome comes
 comes_counts (Some (Format name slots)) source files disk link out outcome (unread, files_unread, uncalled, was) =
     all_told (Some (Format name slots)) source files disk link out outcome
     (spool_counts source files disk link out outcome (FormatsSpool name slots disk out) unread files_unread uncalled
@@ -178,6 +204,10 @@ comes_counts (Some (Spool name)) source files disk link out outcome (unread, fil
     all_told (Some (Spool name)) source files disk link out outcome
     (spool_counts source files disk link out outcome (ShowsSpool name disk out) unread files_unread uncalled
     (λ ended shows. by_listing disk out ended shows.shown) was)
+comes_counts (Some (Drop name count)) source files disk link out outcome (unread, files_unread, uncalled, was) =
+    all_told (Some (Drop name count)) source files disk link out outcome
+    (spool_counts source files disk link out outcome (DropsMessages name count disk out) unread files_unread uncalled
+    (λ ended drops. by_dropping count disk out ended drops.dropped) was)
 comes_counts (Some (Make rounds)) source files disk link out outcome (unread, files_unread, unused, uncalled, comes) =
     all_told (Some (Make rounds)) source files disk link out outcome
     (written_only source files disk link out outcome (source_stands source unread)

@@ -18,7 +18,7 @@ use Rattle.end_run.specs.declared.ending.Ending.{Ending}
 use Rattle.end_run.specs.declared.ending.Ending.TheVariants as ending
 use Rattle.gemline_app.specs.Gemline.{RunComes}
 use Rattle.gemline_app.specs.Host.{WasRun}
-use Rattle.gemline_app.specs.Laws.{HostsAreAnswered, IsGiven}
+use Rattle.gemline_app.specs.Laws.{HostsAreAnswered, IsAnswered, IsGiven}
 use Rattle.gemline_app.specs.LinkTold.{LinkTold}
 use Rattle.gemline_app.specs.Linked.{IsIdle, after_run, before_run, outcome_of_ending}
 use Rattle.gemline_app.specs.declared.outcome.Outcome.{Outcome}
@@ -31,7 +31,7 @@ module _ (source : SourceTold) (files : FilesTold) (disk : DiskTold) (link : Lin
       (how : Option Ending) (acts : List (Act (Node HostOwn Kind) HostCommand))
       (ended : Ending) → ended ≢ ending.DiskFailed
       → Does (before_run link out host) (after_run link out left room stop) how acts (Some ended)
-      → Answered source files disk link out (outcome_of_ending ended)
+      → Answered source files disk link out IsAnswered (outcome_of_ending ended)
   by_ending host left room stop how acts ending.Stopped none did = inl (inl refl)
   by_ending host left room stop how acts ending.Closed none did = inl (inl refl)
   by_ending host left room stop how acts ending.Turns none did = inl (inr (inl refl))
@@ -43,19 +43,19 @@ module _ (source : SourceTold) (files : FilesTold) (disk : DiskTold) (link : Lin
   by_ending host left room stop how acts ending.NoMemory none part = inr tt
 
   ran : (plan : HostPlan) (lines : List ScriptLine) (polls : ℕ) (outcome : Outcome)
-      → WasRun plan lines polls link out outcome → Answered source files disk link out outcome
+      → WasRun plan lines polls link out outcome → Answered source files disk link out IsAnswered outcome
   ran plan lines polls outcome was =
-      subst (Answered source files disk link out) (sym was.outcome_is)
+      subst (Answered source files disk link out IsAnswered) (sym was.outcome_is)
       (by_ending _ was.left was.room was.stop _ _ was.ended was.no_disk was.runs.runs)
 
   by_words :
       (plan address : List ℕ) (polls : ℕ) (outcome : Outcome) → IsGiven side.Host plan source files
       → RunComes (Some (Host plan address polls)) source files disk link out outcome
-      → Answered source files disk link out outcome
+      → Answered source files disk link out IsAnswered outcome
   by_words plan address polls outcome given (inl memory) =
       inr (hindered source files disk link out outcome memory.refused)
   by_words plan address polls outcome given (inr (unused, comes, connects)) =
-      linked_answered source files disk link out side.Host (IsIdle link out)
+      linked_answered source files disk link out IsAnswered (inl refl) side.Host (IsIdle link out)
       (λ (plans : Plans) (lines : List ScriptLine). WasRun plans.host lines polls link out outcome) outcome
       (λ plans lines was. ran plans.host lines polls outcome was) plan given comes
 

@@ -10,6 +10,7 @@ use Rattle.gemline_app.specs.Laws.{HostAsks, IsLinkedDue}
 use Rattle.gemline_app.specs.LinkTold.{LinkTold}
 use Rattle.gemline_app.specs.Linked.{IsIdle}
 use Rattle.gemline_app.specs.declared.outcome.Outcome.{Outcome}
+use Rattle.gemline_app.specs.declared.outcome.Outcome.TheVariants.{NoMemory}
 use Rattle.gemline_app.proofs.LinkedDue.{linked_due, run_due}
 use Rattle.gemline_app.proofs.ReplayDue.{Comes}
 
@@ -19,7 +20,7 @@ module _ (source : SourceTold) (files : FilesTold) (disk : DiskTold) (link : Lin
       → WasRun plans.host lines polls link out outcome → HostAsks polls link plans lines due
       → Comes source files disk link out outcome due
   lines_due polls outcome due plans lines was asks =
-      run_due source files disk link out _ was.left was.room was.stop (host_run plans.host lines polls) was.ended
+      run_due source files disk link out NoMemory _ was.left was.room was.stop (host_run plans.host lines polls) was.ended
       outcome due was.outcome_is (λ at. absurd (was.no_disk at)) was.runs asks
 
   pub host_due :

@@ -10,7 +10,7 @@ use Rattle.gemline_app.specs.Inputs.{InputRefuses, WasRead}
 use Rattle.gemline_app.specs.Laws.{IsInputDue}
 use Rattle.gemline_app.specs.LinkTold.{LinkTold}
 use Rattle.gemline_app.specs.declared.outcome.Outcome.{Outcome}
-use Rattle.gemline_app.specs.declared.outcome.Outcome.TheVariants.{Done, Usage, BadFrame, BadText, BadHex, BadItem, BadLine, Longer, FileLonger, FileFailed, ReadFailed, NoMemory, WriteFailed, TurnsSpent, NumbersSpent, Slip, DiskFailed, NotSpool, BadPlan, BadScript, LinkFailed}
+use Rattle.gemline_app.specs.declared.outcome.Outcome.TheVariants.{Done, Usage, BadFrame, BadText, BadHex, BadItem, BadLine, Longer, FileLonger, FileFailed, ReadFailed, NoMemory, WriteFailed, TurnsSpent, NumbersSpent, Slip, DiskFailed, NotSpool, BadPlan, BadScript, LinkFailed, JournalFull}
 use Rattle.gemline_app.proofs.ReplayDue.{Comes}
 
 -- what reading came to, where the source told its bytes
@@ -48,6 +48,7 @@ unread_due limit Asks source files disk link out Slip due was is_due = absurd wa
 unread_due limit Asks source files disk link out (BadPlan key what) due was is_due = absurd was
 unread_due limit Asks source files disk link out (BadScript number) due was is_due = absurd was
 unread_due limit Asks source files disk link out LinkFailed due was is_due = absurd was
+unread_due limit Asks source files disk link out JournalFull due was is_due = absurd was
 
 -- a command over the input, of which it is shown what it does with the whole of it
 pub input_due : (limit : ℕ) (Was : List ℕ → SinkTold → Outcome → Type 0) (Asks : List ℕ → Outcome → Type 0)

@@ -1,5 +1,5 @@
 -- Each fault of a whole input, of files and of the output is the outcome.
-use Rattle.std.proofs.Common.{◌≡◌, ℕ, Bool, false, List, Result, Ok, Err, refl, sym, ap, subst, inl, inr}
+use Rattle.std.proofs.Common.{◌≡◌, ℕ, Bool, false, List, Option, Some, None, Result, Ok, Err, refl, sym, ap, subst, inl, inr}
 use Rattle.equipment_tables.specs.declared.plan.Plans.{Plans}
 use Rattle.gem_config.specs.declared.fault.ConfigFault.{ConfigFault}
 use Rattle.gem_config.specs.declared.fault.ConfigFault.TheVariants as plan_fault
@@ -15,8 +15,10 @@ use Rattle.line_show.specs.declared.printer.Stop.{Stop}
 use Rattle.line_show.specs.declared.printer.Stop.TheVariants as stop
 use Rattle.line_schedule.specs.declared.schedule.ScheduleFault.{ScheduleFault}
 use Rattle.line_schedule.specs.declared.schedule.ScheduleFault.TheVariants as schedule_fault
-use Rattle.line_schedule.specs.declared.schedule.Schedule.{Schedule}
-use Rattle.line_world.specs.Run.{Runs}
+use Rattle.end_pair.specs.Run.{Runs}
+use Rattle.journal_world.specs.Run as journaled
+use Rattle.line_world.specs.Run.{trace_text, went_of}
+use Rattle.end_pair.specs.declared.answers.WorldStep.{WorldStep}
 use Rattle.end_pair.specs.declared.answers.RunEnd.{RunEnd}
 use Rattle.end_pair.specs.declared.answers.RunEnd.TheVariants as end
 use Rattle.spool_show.specs.Told.{DiskTold}
@@ -27,12 +29,12 @@ use Rattle.gemline_app.specs.Gemline.{ComesOnInput, HexRefuses, TextRefuses, Was
 use Rattle.gemline_app.specs.Inputs.{InputRefuses, IsUnread}
 use Rattle.gemline_app.specs.Laws.{IsCounted, is_disk_fault, is_file_fault, is_link_fault, is_read_fault, is_write_fault}
 use Rattle.gemline_app.specs.Outcome.{outcome_of_show}
-use Rattle.gemline_app.specs.Replay.{ReplayComes, ScheduleComes, ScheduleRefuses, TextRuns, files_since, outcome_of_end, schedule_refusal}
+use Rattle.gemline_app.specs.Replay.{ReplayComes, ScheduleComes, ScheduleRefuses, ScheduleRuns, TextRuns, files_since, end_with, schedule_refusal}
 use Rattle.gemline_app.specs.Written.{AreUnread, IsUntouched}
 use Rattle.gemline_app.specs.declared.outcome.FileRole.{FileRole}
 use Rattle.gemline_app.specs.declared.outcome.FileRole.TheVariants as role
 use Rattle.gemline_app.specs.declared.outcome.Outcome.{Outcome}
-use Rattle.gemline_app.specs.declared.outcome.Outcome.TheVariants.{Done, Usage, BadFrame, BadText, BadHex, BadItem, BadLine, Longer, FileLonger, FileFailed, ReadFailed, NoMemory, WriteFailed, TurnsSpent, NumbersSpent, Slip, DiskFailed, NotSpool, BadPlan, BadScript, LinkFailed}
+use Rattle.gemline_app.specs.declared.outcome.Outcome.TheVariants.{Done, Usage, BadFrame, BadText, BadHex, BadItem, BadLine, Longer, FileLonger, FileFailed, ReadFailed, NoMemory, WriteFailed, TurnsSpent, NumbersSpent, Slip, DiskFailed, NotSpool, BadPlan, BadScript, LinkFailed, JournalFull}
 
 -- what a run came to: a fault of each object is the outcome
 pub record CountsAll (source : SourceTold) (files : FilesTold) (disk : DiskTold) (link : LinkTold) (out : SinkTold)
@@ -95,6 +97,7 @@ written_counts line out Slip was = absurd was
 written_counts line out (BadPlan key what) was = absurd was
 written_counts line out (BadScript number) was = absurd was
 written_counts line out LinkFailed was = absurd was
+written_counts line out JournalFull was = absurd was
 
 -- a refusal is no fault of an object
 pub record IsPlain (outcome : Outcome) : Type 0 where
@@ -126,6 +129,7 @@ text_plain text Slip was = absurd was
 text_plain text (BadPlan key what) was = absurd was
 text_plain text (BadScript number) was = absurd was
 text_plain text LinkFailed was = absurd was
+text_plain text JournalFull was = absurd was
 
 hex_plain : (digits : List ℕ) (refusal : Outcome) → HexRefuses digits refusal → IsPlain refusal
 hex_plain digits Done was = absurd was
@@ -149,6 +153,7 @@ hex_plain digits Slip was = absurd was
 hex_plain digits (BadPlan key what) was = absurd was
 hex_plain digits (BadScript number) was = absurd was
 hex_plain digits LinkFailed was = absurd was
+hex_plain digits JournalFull was = absurd was
 
 pub plain_counts : (out : SinkTold) (outcome : Outcome) → IsPlain outcome → out.health_after.faults ≡ out.health.faults
     → CountsWrites out outcome
@@ -223,6 +228,7 @@ module _ (source : SourceTold) (files : FilesTold) (disk : DiskTold) (link : Lin
   unread_counts limit stands left (BadPlan key what) was = absurd was
   unread_counts limit stands left (BadScript number) was = absurd was
   unread_counts limit stands left LinkFailed was = absurd was
+  unread_counts limit stands left JournalFull was = absurd was
 
   -- the source, the files, the disk and the link stand
   pub written_only : (outcome : Outcome) → source.health_after.faults ≡ source.health.faults
@@ -288,6 +294,7 @@ file_refused which name files out left Slip was = absurd was
 file_refused which name files out left (BadPlan key what) was = absurd was
 file_refused which name files out left (BadScript number) was = absurd was
 file_refused which name files out left LinkFailed was = absurd was
+file_refused which name files out left JournalFull was = absurd was
 
 -- the files stand
 stand_files : (files : FilesTold) (out : SinkTold) (outcome : Outcome)
@@ -301,26 +308,26 @@ stand_files files out outcome stands counts = record {
   write = counts.write;
 }
 
-by_end : (out : SinkTold) (plans : Plans) (schedule : Schedule) (ended : RunEnd) → Runs out plans schedule ended
-    → CountsWrites out (outcome_of_end ended)
-by_end out plans schedule end.Whole (at, wrote) =
+by_end : (full : Outcome) → IsPlain full → (out : SinkTold) (text : List ℕ) (how : WorldStep) (ended : RunEnd)
+    → Runs out text how ended → CountsWrites out (end_with full ended)
+by_end full plain out text how end.Whole (at, wrote) =
     record { read = refl; file = refl; on_disk = refl; on_link = refl; write = wrote.health.same }
-by_end out plans schedule end.Slip (at, wrote) =
+by_end full plain out text how end.Slip (at, wrote) =
     record { read = refl; file = refl; on_disk = refl; on_link = refl; write = wrote.health.same }
-by_end out plans schedule end.Turns (at, wrote) =
+by_end full plain out text how end.Turns (at, wrote) =
     record { read = refl; file = refl; on_disk = refl; on_link = refl; write = wrote.health.same }
-by_end out plans schedule end.NumbersSpent (at, wrote) =
+by_end full plain out text how end.NumbersSpent (at, wrote) =
     record { read = refl; file = refl; on_disk = refl; on_link = refl; write = wrote.health.same }
-by_end out plans schedule end.JournalFull (at, wrote) =
-    record { read = refl; file = refl; on_disk = refl; on_link = refl; write = wrote.health.same }
-by_end out plans schedule end.NoMemory part =
+by_end full plain out text how end.JournalFull (at, wrote) = plain_counts out full plain wrote.health.same
+by_end full plain out text how end.NoMemory part =
     record { read = refl; file = refl; on_disk = refl; on_link = refl; write = part.wrote.health.same }
-by_end out plans schedule end.WriteFailed short =
+by_end full plain out text how end.WriteFailed short =
     record { read = refl; file = refl; on_disk = refl; on_link = refl; write = short.fault.rose }
 
-left_of : (text : List ℕ) (out : SinkTold) (fault : ScheduleFault) → ScheduleRefuses text out fault → IsUntouched out
-left_of text out (schedule_fault.Line number) (at, left) = left
-left_of text out schedule_fault.NoMemory left = left
+left_of : (Outside : ℕ → Type 0) (out : SinkTold) (fault : ScheduleFault) → ScheduleRefuses Outside out fault
+    → IsUntouched out
+left_of Outside out (schedule_fault.Line number) (at, left) = left
+left_of Outside out schedule_fault.NoMemory left = left
 
 schedule_plain : (fault : ScheduleFault) → IsPlain (schedule_refusal fault)
 schedule_plain (schedule_fault.Line number) =
@@ -328,24 +335,42 @@ schedule_plain (schedule_fault.Line number) =
 schedule_plain schedule_fault.NoMemory =
     record { read = refl; file = refl; on_disk = refl; on_link = refl; write = refl }
 
-text_counts :
-    (plans : Plans) (text : List ℕ) (out : SinkTold) (outcome : Outcome)
-    → TextRuns plans text out outcome → CountsWrites out outcome
-text_counts plans text out outcome runs = elim runs.because [
-  | inl (schedule, is, was) ↦
-      subst (CountsWrites out) (sym was.outcome_is) (by_end out plans schedule was.ended was.wrote)
+runs_count :
+    {S : Type 0} (Is : S → Type 0) (Outside : ℕ → Type 0) (Was : S → Type 0) (out : SinkTold) (outcome : Outcome)
+    → ((schedule : S) → Was schedule → CountsWrites out outcome) → ScheduleRuns Is Outside Was out outcome
+    → CountsWrites out outcome
+runs_count Is Outside Was out outcome each runs = elim runs.because [
+  | inl (schedule, is, was) ↦ each schedule was
   | inr (fault, refuses, is) ↦
       plain_counts out outcome (subst IsPlain (sym is) (schedule_plain fault))
-      (untouched out (left_of text out fault refuses))
+      (untouched out (left_of Outside out fault refuses))
 ]
 
+text_counts :
+    (journal : Option ℕ) (plans : Plans) (text : List ℕ) (out : SinkTold) (outcome : Outcome)
+    → TextRuns journal plans text out outcome → CountsWrites out outcome
+text_counts None plans text out outcome runs =
+    runs_count _ _ _ out outcome
+    (λ schedule was.
+    subst (CountsWrites out) (sym was.outcome_is)
+    (by_end NoMemory (record { read = refl; file = refl; on_disk = refl; on_link = refl; write = refl }) out
+    (trace_text plans schedule) (went_of plans schedule) was.ended was.wrote))
+    runs
+text_counts (Some slots) plans text out outcome runs =
+    runs_count _ _ _ out outcome
+    (λ schedule was.
+    subst (CountsWrites out) (sym was.outcome_is)
+    (by_end JournalFull (record { read = refl; file = refl; on_disk = refl; on_link = refl; write = refl }) out
+    (journaled.trace_text plans slots schedule) (journaled.went_of plans slots schedule) was.ended was.wrote))
+    runs
+
 schedule_counts :
-    (plans : Plans) (name : List ℕ) (files : FilesTold) (out : SinkTold) (outcome : Outcome)
-    → ScheduleComes plans name files out outcome → CountsFiles files out outcome
-schedule_counts plans name files out outcome (inl (refuses, left)) =
+    (journal : Option ℕ) (plans : Plans) (name : List ℕ) (files : FilesTold) (out : SinkTold) (outcome : Outcome)
+    → ScheduleComes journal plans name files out outcome → CountsFiles files out outcome
+schedule_counts journal plans name files out outcome (inl (refuses, left)) =
     file_refused role.Schedule name files out (untouched out left) outcome refuses
-schedule_counts plans name files out outcome (inr (text, was, runs)) =
-    stand_files files out outcome was.cause.same (text_counts plans text out outcome runs)
+schedule_counts journal plans name files out outcome (inr (text, was, runs)) =
+    stand_files files out outcome was.cause.same (text_counts journal plans text out outcome runs)
 
 -- from a moment before on, up to which the files stood
 since_counts : (files later : FilesTold) (out : SinkTold) (outcome : Outcome)
@@ -365,17 +390,17 @@ pub plan_plain : (fault : ConfigFault) → IsPlain (plan_refusal fault)
 plan_plain (plan_fault.Key key what) = record { read = refl; file = refl; on_disk = refl; on_link = refl; write = refl }
 plan_plain plan_fault.NoMemory = record { read = refl; file = refl; on_disk = refl; on_link = refl; write = refl }
 
-pub replay_counts : (plan schedule : List ℕ) (files : FilesTold) (out : SinkTold) (outcome : Outcome)
-    → ReplayComes plan schedule files out outcome
+pub replay_counts : (journal : Option ℕ) (plan schedule : List ℕ) (files : FilesTold) (out : SinkTold) (outcome : Outcome)
+    → ReplayComes journal plan schedule files out outcome
     → CountsFiles files out outcome
-replay_counts plan schedule files out outcome (inl (inl refuses, left)) =
+replay_counts journal plan schedule files out outcome (inl (inl refuses, left)) =
     file_refused role.Plan plan files out (untouched out left) outcome refuses
-replay_counts plan schedule files out outcome (inl (inr bad, left)) =
+replay_counts journal plan schedule files out outcome (inl (inr bad, left)) =
     stand_files files out outcome bad.read.cause.same
     (plain_counts out outcome (subst IsPlain (sym bad.refused) (plan_plain bad.fault)) (untouched out left))
-replay_counts plan schedule files out outcome (inr over) =
+replay_counts journal plan schedule files out outcome (inr over) =
     since_counts files (files_since files over.told over.health) out outcome over.are.read.cause.same refl
-    (schedule_counts over.plans schedule (files_since files over.told over.health) out outcome over.rest)
+    (schedule_counts journal over.plans schedule (files_since files over.told over.health) out outcome over.rest)
 
 -- ---- a run
 

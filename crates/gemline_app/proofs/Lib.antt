@@ -1,10 +1,12 @@
 mod Carrying
 pub mod Connecting
 pub mod Due
-mod EquipmentAnswered
 mod EquipmentDue
 pub mod Equipping
 mod FaultsTold
+mod FiledAnswered
+mod FiledDue
+mod FiledFaults
 pub mod Filing
 mod FittingMade
 mod HexLaws
@@ -14,6 +16,8 @@ mod HostDue
 mod Hosting
 mod InputDue
 mod InputFaults
+mod JournalDue
+mod Journaling
 mod LinkedAnswered
 mod LinkedDue
 mod LinkFaults

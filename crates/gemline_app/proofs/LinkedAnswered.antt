@@ -11,7 +11,7 @@ use Rattle.line_schedule.specs.Script.{IsScript}
 use Rattle.spool_show.specs.Told.{DiskTold}
 use Rattle.end_run.specs.Script.{ScriptLine}
 use Rattle.gemline_app.specs.Files.{plan_refusal}
-use Rattle.gemline_app.specs.Laws.{Hinders, IsAnswered, IsGiven}
+use Rattle.gemline_app.specs.Laws.{Hinders, IsGiven}
 use Rattle.gemline_app.specs.LinkTold.{LinkTold}
 use Rattle.gemline_app.specs.Linked.{LinkedComes, ScriptComes, ScriptRuns}
 use Rattle.gemline_app.specs.Words.{script_limit}
@@ -22,14 +22,16 @@ use Rattle.gemline_app.proofs.InputDue.{read_of, unread_due}
 use Rattle.gemline_app.proofs.ReplayDue.{Refused, failed, hindered, is_no_memory, no_plans, refused, whole_is}
 
 module _ (source : SourceTold) (files : FilesTold) (disk : DiskTold) (link : LinkTold) (out : SinkTold) where
-  abbrev pub Answered : Outcome → Type 0
-  Answered outcome = IsAnswered outcome ⊎ Hinders source files disk link out outcome
+  module _ (Good : Outcome → Type 0) where
+    abbrev pub Answered : Outcome → Type 0
+    Answered outcome = Good outcome ⊎ Hinders source files disk link out outcome
 
-  module _ (end : Side) (Idle : Type 0) (Was : Plans → List ScriptLine → Type 0) (outcome : Outcome)
-      (each : (plans : Plans) (lines : List ScriptLine) → Was plans lines → Answered outcome)
+  module _ (Good : Outcome → Type 0) (done : Good Done) (end : Side) (Idle : Type 0)
+      (Was : Plans → List ScriptLine → Type 0) (outcome : Outcome)
+      (each : (plans : Plans) (lines : List ScriptLine) → Was plans lines → Answered Good outcome)
     where
       scripted : (plans : Plans) (text : List ℕ) (lines : List ScriptLine) → IsScript end text lines
-          → ScriptRuns end Idle (Was plans) text outcome → Answered outcome
+          → ScriptRuns end Idle (Was plans) text outcome → Answered Good outcome
       scripted plans text lines is runs = elim (runs.only lines is) [
         | inl was ↦ each plans lines was
         | inr memory ↦ inr (hindered source files disk link out outcome memory.0)
@@ -39,11 +41,11 @@ module _ (source : SourceTold) (files : FilesTold) (disk : DiskTold) (link : Lin
       told :
           (plans : Plans) (text : List ℕ) (lines : List ScriptLine) → source.before ≡ Some text
           → length text ≤ script_limit → IsScript end text lines → ScriptComes end Idle (Was plans) source outcome
-          → Answered outcome
+          → Answered Good outcome
       told plans text lines is_told within is (inl (refuses, idle)) =
           elim (unread_due script_limit (λ t due. Unit {0}) source files disk link out outcome Done refuses
           (text, is_told, inr (within, tt))) [
-            | inl done ↦ inl (inl done)
+            | inl is ↦ inl (subst Good (sym is) done)
             | inr hinders ↦ inr hinders
           ]
       told plans text lines is_told within is (inr (whole, read, runs)) =
@@ -52,17 +54,17 @@ module _ (source : SourceTold) (files : FilesTold) (disk : DiskTold) (link : Lin
           (subst (λ (all : List ℕ). ScriptRuns end Idle (Was plans) all outcome) same runs)
 
       module _ (plan : List ℕ) (given : IsGiven end plan source files) where
-        unread : Refused role.Plan given.bytes files outcome → Answered outcome
+        unread : Refused role.Plan given.bytes files outcome → Answered Good outcome
         unread (inl (longer, past)) = let within = given.plan_within in absurd (omega arith)
         unread (inr (inl (found, is, rose))) = inr (failed source files disk link out outcome found is rose)
         unread (inr (inr memory)) = inr (hindered source files disk link out outcome memory)
 
-        bad : (fault : ConfigFault) → IsReadAs given.bytes (Err fault) → outcome ≡ plan_refusal fault → Answered outcome
+        bad : (fault : ConfigFault) → IsReadAs given.bytes (Err fault) → outcome ≡ plan_refusal fault → Answered Good outcome
         bad plan_fault.NoMemory read is = inr (hindered source files disk link out outcome is)
         bad (plan_fault.Key key what) read is =
             absurd (no_plans given.plans _ (read.only (Ok given.plans) given.means (is_no_memory key what)))
 
-        pub linked_answered : LinkedComes end Idle Was plan source files outcome → Answered outcome
+        pub linked_answered : LinkedComes end Idle Was plan source files outcome → Answered Good outcome
         linked_answered (inl (inl refuses, untouched, idle)) =
             unread (refused role.Plan plan given.bytes files outcome given.plan_told refuses)
         linked_answered (inl (inr is_bad, untouched, idle)) =

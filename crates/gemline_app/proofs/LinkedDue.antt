@@ -23,7 +23,7 @@ use Rattle.gemline_app.specs.Files.{plan_refusal}
 use Rattle.gemline_app.specs.Gemline.{ComesOnInput}
 use Rattle.gemline_app.specs.Laws.{Hinders, IsInputDue, IsLinkedDue, IsTextDue, LinkedAsks, RunAsks, ScriptAsks}
 use Rattle.gemline_app.specs.LinkTold.{LinkTold}
-use Rattle.gemline_app.specs.Linked.{LinkedComes, ScriptComes, ScriptRuns, after_run, before_run, outcome_of_ending}
+use Rattle.gemline_app.specs.Linked.{LinkedComes, ScriptComes, ScriptRuns, after_run, before_run, outcome_with}
 use Rattle.gemline_app.specs.Words.{script_limit}
 use Rattle.gemline_app.specs.Written.{IsUntouched}
 use Rattle.gemline_app.specs.declared.outcome.FileRole.TheVariants as role
@@ -43,36 +43,37 @@ answers_are told contents answers to_come is = subst (λ (t : Option LinkContent
 module _ (source : SourceTold) (files : FilesTold) (disk : DiskTold) (link : LinkTold) (out : SinkTold) where
   -- ---- a run of an end, where a fault of its disk was counted if it failed
 
-  module _ {S C : Type 0} (end left : S) (room : Asked) (stop : Option (StopAt S C)) where
+  module _ {S C : Type 0} (full : Outcome) (end left : S) (room : Asked) (stop : Option (StopAt S C)) where
     ended_due :
         (how : Option Ending) (acts : List (Act S C)) (ended wanted : Ending)
         → (ended ≡ ending.DiskFailed → Hinders source files disk link out DiskFailed)
         → Does (before_run link out end) (after_run link out left room stop) how acts (Some ended)
-        → how ≡ Some wanted → Comes source files disk link out (outcome_of_ending ended) (outcome_of_ending wanted)
+        → how ≡ Some wanted → Comes source files disk link out (outcome_with full ended) (outcome_with full wanted)
     ended_due how acts ending.Stopped wanted on_disk (at, did) is =
-        inl (ap outcome_of_ending (one_ending ending.Stopped wanted (sym at ∙ is)))
+        inl (ap (outcome_with full) (one_ending ending.Stopped wanted (sym at ∙ is)))
     ended_due how acts ending.Closed wanted on_disk (at, did) is =
-        inl (ap outcome_of_ending (one_ending ending.Closed wanted (sym at ∙ is)))
+        inl (ap (outcome_with full) (one_ending ending.Closed wanted (sym at ∙ is)))
     ended_due how acts ending.Turns wanted on_disk (at, did) is =
-        inl (ap outcome_of_ending (one_ending ending.Turns wanted (sym at ∙ is)))
+        inl (ap (outcome_with full) (one_ending ending.Turns wanted (sym at ∙ is)))
     ended_due how acts ending.NumbersSpent wanted on_disk (at, made, spent) is =
-        inl (ap outcome_of_ending (one_ending ending.NumbersSpent wanted (sym at ∙ is)))
-    ended_due how acts ending.Full wanted on_disk (at, made, full) is = inr tt
+        inl (ap (outcome_with full) (one_ending ending.NumbersSpent wanted (sym at ∙ is)))
+    ended_due how acts ending.Full wanted on_disk (at, made, spent) is =
+        inl (ap (outcome_with full) (one_ending ending.Full wanted (sym at ∙ is)))
     ended_due how acts ending.DiskFailed wanted on_disk fails is = inr (on_disk refl)
     ended_due how acts ending.LinkFailed wanted on_disk fails is = inr fails.fault.rose
     ended_due how acts ending.WriteFailed wanted on_disk fails is = inr fails.fault.rose
     ended_due how acts ending.NoMemory wanted on_disk part is = inr tt
 
     pub run_due :
-        (run : List LinkIn → Piece S C) (ended : Ending) (outcome due : Outcome) → outcome ≡ outcome_of_ending ended
+        (run : List LinkIn → Piece S C) (ended : Ending) (outcome due : Outcome) → outcome ≡ outcome_with full ended
         → (ended ≡ ending.DiskFailed → Hinders source files disk link out DiskFailed)
-        → RunsOver (before_run link out end) (after_run link out left room stop) run ended → RunAsks run link due
+        → RunsOver (before_run link out end) (after_run link out left room stop) run ended → RunAsks full run link due
         → Comes source files disk link out outcome due
     run_due run ended outcome due outcome_is on_disk runs (contents, wanted, told, ends, is_due) =
         let same = answers_are link.before contents runs.answers runs.to_come told in
         let ends_so = ap (λ (answers : List LinkIn). (run answers).ended) (sym same) ∙ ends in
         subst (λ (o : Outcome). Comes source files disk link out o due) (sym outcome_is)
-        (subst (λ (o : Outcome). Comes source files disk link out (outcome_of_ending ended) o) (sym is_due)
+        (subst (λ (o : Outcome). Comes source files disk link out (outcome_with full ended) o) (sym is_due)
         (ended_due _ _ ended wanted on_disk runs.runs ends_so))
 
   -- ---- a command that does this of the lines of its script, which ask for that

@@ -20,7 +20,7 @@ use Rattle.gemline_app.specs.Outcome.{status_of}
 use Rattle.gemline_app.specs.Spelling.{HexSpells, spelled_line, text_line}
 use Rattle.gemline_app.specs.Words.{item_limit}
 use Rattle.gemline_app.specs.declared.outcome.Outcome.{Outcome}
-use Rattle.gemline_app.specs.declared.outcome.Outcome.TheVariants.{Done, Usage, BadFrame, BadText, BadHex, BadItem, BadLine, Longer, FileLonger, FileFailed, ReadFailed, NoMemory, WriteFailed, TurnsSpent, NumbersSpent, Slip, DiskFailed, NotSpool, BadPlan, BadScript, LinkFailed}
+use Rattle.gemline_app.specs.declared.outcome.Outcome.TheVariants.{Done, Usage, BadFrame, BadText, BadHex, BadItem, BadLine, Longer, FileLonger, FileFailed, ReadFailed, NoMemory, WriteFailed, TurnsSpent, NumbersSpent, Slip, DiskFailed, NotSpool, BadPlan, BadScript, LinkFailed, JournalFull}
 use Rattle.gemline_app.proofs.Due.{due_outcome, one_bytes}
 use Rattle.gemline_app.proofs.InputDue.{read_of}
 use Rattle.gemline_app.proofs.HexMeaning.{hex_means}
@@ -66,6 +66,7 @@ done_is Slip is = absurd (omega (arith, is))
 done_is (BadPlan key what) is = absurd (omega (arith, is))
 done_is (BadScript number) is = absurd (omega (arith, is))
 done_is LinkFailed is = absurd (omega (arith, is))
+done_is JournalFull is = absurd (omega (arith, is))
 
 -- an output that was empty received this line
 one_line : (before after : Option (List ℕ)) (line found : List ℕ) → before ≡ Some [] → after ≡ Some line

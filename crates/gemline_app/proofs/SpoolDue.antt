@@ -1,8 +1,9 @@
--- Which outcome of `format` and of `spool` is due.
+-- Which outcome of `format`, of `spool` and of `drop` is due.
 use Rattle.std.proofs.Common.{◌≡◌, ℕ, List, refl, sym, ap, subst, ◌∙◌, inl, inr}
 use Rattle.disk_base.specs.Faults.{Rose as RoseOnDisk}
 use Rattle.gl_base.specs.Faults.{Rose}
 use Rattle.gl_base.specs.Told.{FilesTold, SinkTold, SourceTold}
+use Rattle.spool_drop.specs.Dropping.{DropsMessages, DropsOf}
 use Rattle.spool_show.specs.Formatting.{FormatsSpool}
 use Rattle.spool_show.specs.Showing.{ShowsFile, ShowsSpool}
 use Rattle.spool_show.specs.Told.{DiskTold}
@@ -49,3 +50,18 @@ module _ (source : SourceTold) (files : FilesTold) (disk : DiskTold) (link : Lin
   listed_due name outcome due was is =
       subst (λ (o : Outcome). Comes source files disk link out o due) (sym was.outcome_is)
       (shown_due was.ended due was.ends.shown is)
+
+  took_due : (count : ℕ) (ended : SpoolEnd) (due : Outcome) → DropsOf count disk out ended → IsSpoolDue disk due
+      → Comes source files disk link out (outcome_of_spool ended) due
+  took_due count spool.Done due was (s, told, is) = inl (sym (is ∙ ap outcome_of_break (was.left.sound s told)))
+  took_due count (spool.NotSpool place) due was (s, told, is) =
+      inl (sym (is ∙ ap outcome_of_break (was.left.1 s told).0))
+  took_due count spool.DiskFailed due was is = inr (rose_of was.count_is)
+  took_due count spool.WriteFailed due was is = inr was.left.written.fault.rose
+
+  pub dropped_due : (name : List ℕ) (count : ℕ) (outcome due : Outcome)
+      → EndedAs (DropsMessages name count disk out) outcome → IsSpoolDue disk due
+      → Comes source files disk link out outcome due
+  dropped_due name count outcome due was is =
+      subst (λ (o : Outcome). Comes source files disk link out o due) (sym was.outcome_is)
+      (took_due count was.ended due was.ends.dropped is)

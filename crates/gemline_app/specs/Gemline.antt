@@ -1,6 +1,6 @@
 -- What a run of the program is, by its words and what the outside tells (this profile).
 use Rattle.std.specs.Prelude.{◌≡◌, ◌⊎◌, ℕ, List, Option, Some, None, Result, Ok, Err}
-use Rattle.command_words.specs.Asked.{Asked, Equipment, Format, Host, Make, Replay, Show, Spell, SpellHex, Spool}
+use Rattle.command_words.specs.Asked.{Asked, Drop, Equipment, Format, Host, JournalHost, JournalReplay, Make, Replay, Show, Spell, SpellHex, Spool}
 use Rattle.command_words.specs.Words.{asked_of}
 use Rattle.disk_base.specs.Disk.{TellsAsBefore}
 use Rattle.gl_base.specs.Sending.{Sends, WroteShort, WroteText}
@@ -17,6 +17,7 @@ use Rattle.secs_items.specs.Spelling.{Spells}
 use Rattle.secs_text.specs.Faults.{HasFault}
 use Rattle.secs_text.specs.Grammar.{ReadsAs}
 use Rattle.secs_text.specs.declared.text_fault.TextFault.{TextFault}
+use Rattle.spool_drop.specs.Dropping.{DropsMessages}
 use Rattle.spool_show.specs.Formatting.{FormatsSpool}
 use Rattle.spool_show.specs.Showing.{ShowsSpool}
 use Rattle.spool_show.specs.Told.{DiskTold}
@@ -24,6 +25,7 @@ use Rattle.gemline_app.specs.HexInput.{HexMeans, IsHexBreak}
 use Rattle.gemline_app.specs.Equipment.{EquipmentComes}
 use Rattle.gemline_app.specs.Host.{HostComes}
 use Rattle.gemline_app.specs.Inputs.{InputRefuses, IsUnread, WasRead}
+use Rattle.gemline_app.specs.Journal.{JournalComes}
 use Rattle.gemline_app.specs.LinkTold.{ConnectsOnce, IsUncalled, LinkTold}
 use Rattle.gemline_app.specs.Make.{MakeComes}
 use Rattle.gemline_app.specs.Outcome.{line_of, name_of, outcome_of_show, status_of}
@@ -122,16 +124,23 @@ ComesFrom (Some Spell) source files disk link out outcome =
 ComesFrom (Some SpellHex) source files disk link out outcome =
     AreUnread files × IsUnused disk × IsUncalled link × ComesOnInput item_limit WasPrinted source out outcome
 ComesFrom (Some (Replay plan schedule)) source files disk link out outcome =
-    IsUnread source × IsUnused disk × IsUncalled link × ReplayComes plan schedule files out outcome
+    IsUnread source × IsUnused disk × IsUncalled link × ReplayComes None plan schedule files out outcome
+ComesFrom (Some (JournalReplay plan schedule slots)) source files disk link out outcome =
+    IsUnread source × IsUnused disk × IsUncalled link × ReplayComes (Some slots) plan schedule files out outcome
 ComesFrom (Some (Equipment plan address spool polls)) source files disk link out outcome =
     EquipmentComes plan spool polls source files disk link out outcome × ConnectsOnce side.Equipment address link
     × TellsAsBefore disk.before disk.after
 ComesFrom (Some (Host plan address polls)) source files disk link out outcome =
     IsUnused disk × HostComes plan polls source files link out outcome × ConnectsOnce side.Host address link
+ComesFrom (Some (JournalHost plan address journal polls)) source files disk link out outcome =
+    JournalComes plan journal polls source files disk link out outcome × ConnectsOnce side.Host address link
+    × TellsAsBefore disk.before disk.after
 ComesFrom (Some (Format spool slots)) source files disk link out outcome =
     IsUnread source × AreUnread files × IsUncalled link × EndedAs (FormatsSpool spool slots disk out) outcome
 ComesFrom (Some (Spool spool)) source files disk link out outcome =
     IsUnread source × AreUnread files × IsUncalled link × EndedAs (ShowsSpool spool disk out) outcome
+ComesFrom (Some (Drop spool count)) source files disk link out outcome =
+    IsUnread source × AreUnread files × IsUncalled link × EndedAs (DropsMessages spool count disk out) outcome
 ComesFrom (Some (Make rounds)) source files disk link out outcome =
     IsUnread source × AreUnread files × IsUnused disk × IsUncalled link × MakeComes rounds out outcome
 

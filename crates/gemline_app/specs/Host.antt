@@ -21,7 +21,7 @@ use Rattle.end_run.specs.Sides.{told_host}
 use Rattle.end_run.specs.declared.ending.Ending.{Ending}
 use Rattle.end_run.specs.declared.ending.Ending.TheVariants as ending
 use Rattle.gemline_app.specs.LinkTold.{LinkTold}
-use Rattle.gemline_app.specs.Linked.{IsIdle, LinkedComes, ScriptComes, ScriptRuns, after_run, before_run, outcome_of_ending}
+use Rattle.gemline_app.specs.Linked.{IsIdle, LinkedComes, after_run, before_run, outcome_of_ending}
 use Rattle.gemline_app.specs.declared.outcome.Outcome.{Outcome}
 
 -- ---- the host's run
@@ -56,17 +56,7 @@ pub record WasRun (plan : HostPlan) (lines : List ScriptLine) (polls : ℕ) (lin
       (host_run plan lines polls)
       ended
 
--- ---- its script
-
--- what a text that is to be a script of the host came to
-abbrev pub HostRuns : HostPlan → List ℕ → ℕ → LinkTold → SinkTold → Outcome → Type 0
-HostRuns plan text polls link out outcome =
-    ScriptRuns side.Host (IsIdle link out) (λ lines. WasRun plan lines polls link out outcome) text outcome
-
--- what `host` came to from its script on
-abbrev pub HostReads : HostPlan → ℕ → SourceTold → LinkTold → SinkTold → Outcome → Type 0
-HostReads plan polls source link out outcome =
-    ScriptComes side.Host (IsIdle link out) (λ lines. WasRun plan lines polls link out outcome) source outcome
+-- ---- from its plan on
 
 -- what `host` came to
 abbrev pub HostComes : List ℕ → ℕ → SourceTold → FilesTold → LinkTold → SinkTold → Outcome → Type 0

@@ -1,6 +1,6 @@
 -- What holds of all runs.
 use Rattle.std.specs.Prelude.{◌≡◌, ◌≢◌, ◌<◌, ◌≤◌, ◌⊎◌, ℕ, Bool, true, false, List, [], length, Option, Some, None, Ok}
-use Rattle.command_words.specs.Asked.{Asked, Equipment, Format, Host, Make, Replay, Show, Spell, SpellHex, Spool}
+use Rattle.command_words.specs.Asked.{Asked, Drop, Equipment, Format, Host, JournalHost, JournalReplay, Make, Replay, Show, Spell, SpellHex, Spool}
 use Rattle.command_words.specs.Words.{asked_of}
 use Rattle.equipment_tables.specs.declared.plan.Plans.{Plans}
 use Rattle.gem_config.specs.Plans.{Means}
@@ -14,15 +14,15 @@ use Rattle.gl_base.specs.Link.{LinkContents}
 use Rattle.gl_base.specs.declared.link.LinkIn.{LinkIn}
 use Rattle.gl_base.specs.declared.side.Side.{Side}
 use Rattle.gl_base.specs.declared.side.Side.TheVariants as side
-use Rattle.line_schedule.specs.Schedule.{IsSchedule, OutsideAt}
+use Rattle.line_schedule.specs.Schedule.{IsJournalSchedule, IsSchedule, OutsideAt, OutsideJournalAt}
 use Rattle.line_schedule.specs.Script.{IsScript, OutsideScriptAt}
+use Rattle.line_schedule.specs.declared.schedule.JournalSchedule.{JournalSchedule}
 use Rattle.line_schedule.specs.declared.schedule.Schedule.{Schedule}
 use Rattle.trace_log.specs.Log.{Entry, Happening}
 use Rattle.message_end.specs.Core.{Step}
 use Rattle.message_end.specs.Core.Went.{Goes}
-use Rattle.equipment_tables.specs.declared.plan.EquipmentPlan.{EquipmentPlan}
 use Rattle.equipment_node.specs.StartSetup.{start_break}
-use Rattle.tool_step.specs.Equipment.{EquipmentView, is_marked_out, starts}
+use Rattle.tool_step.specs.Equipment.{is_marked_out}
 use Rattle.end_run.specs.Pieces.{Piece as RunPiece}
 use Rattle.end_run.specs.Script.{ScriptLine}
 use Rattle.end_run.specs.declared.ending.Ending.{Ending as RunEnding}
@@ -30,6 +30,7 @@ use Rattle.end_pair.specs.Laws.{IsSlip, OnNewest}
 use Rattle.end_pair.specs.declared.answers.WorldStep.{WorldStep}
 use Rattle.end_pair.specs.declared.answers.WorldStep.TheVariants as went
 use Rattle.line_world.specs.Make.{make_schedule}
+use Rattle.journal_world.specs.Run as journaled
 use Rattle.line_world.specs.Run.{log_of, went_of}
 use Rattle.line_show.specs.Capture.{Piece, Reads}
 use Rattle.line_show.specs.Lines.{lines_of}
@@ -46,10 +47,12 @@ use Rattle.disk_base.specs.Story.{Story}
 use Rattle.spool_show.specs.Told.{DiskTold}
 use Rattle.spool_file.specs.File.{file_in, spool_break}
 use Rattle.gemline_app.specs.LinkTold.{LinkTold}
-use Rattle.gemline_app.specs.Linked.{outcome_of_ending}
+use Rattle.gemline_app.specs.Filed.{Filed, run_of}
+use Rattle.gemline_app.specs.Journal.{journal_host}
+use Rattle.gemline_app.specs.Linked.{outcome_with}
 use Rattle.gemline_app.specs.Gemline.{IsRun}
 use Rattle.gemline_app.specs.HexInput.{HexMeans, IsHexBreak}
-use Rattle.gemline_app.specs.Equipment.{equipment_run}
+use Rattle.gemline_app.specs.Equipment.{tool}
 use Rattle.gemline_app.specs.Host.{host_run}
 use Rattle.gemline_app.specs.Make.{made_plans}
 use Rattle.gemline_app.specs.Outcome.{outcome_of_show}
@@ -57,7 +60,7 @@ use Rattle.gemline_app.specs.Spelling.{HexSpells, spelled_line, text_line, text_
 use Rattle.gemline_app.specs.Words.{capture_limit, file_limit, item_limit, script_limit}
 use Rattle.gemline_app.specs.declared.outcome.FileRole.TheVariants as role
 use Rattle.gemline_app.specs.declared.outcome.Outcome.{Outcome}
-use Rattle.gemline_app.specs.declared.outcome.Outcome.TheVariants.{Done, Usage, BadText, BadHex, BadItem, BadLine, Longer, FileLonger, FileFailed, ReadFailed, NoMemory, WriteFailed, TurnsSpent, NumbersSpent, Slip, DiskFailed, NotSpool, BadPlan, BadScript, LinkFailed}
+use Rattle.gemline_app.specs.declared.outcome.Outcome.TheVariants.{Done, Usage, BadText, BadHex, BadItem, BadLine, Longer, FileLonger, FileFailed, ReadFailed, NoMemory, WriteFailed, TurnsSpent, NumbersSpent, Slip, DiskFailed, NotSpool, BadPlan, BadScript, LinkFailed, JournalFull}
 
 -- what a capture asks for: its pieces, and the outcome of how they end
 abbrev pub CaptureAsks : List ℕ → Outcome → Type 0
@@ -98,38 +101,47 @@ IsRunDue how log due =
     ⊎ (((how ≡ went.NumbersSpent) × (due ≡ NumbersSpent))
     ⊎ ((OnNewest IsSlip log → ⊥) × (how ≢ went.Turns) × (how ≢ went.NumbersSpent) × (due ≡ Done))))
 
--- what the text of a schedule asks for: its trace, as far as the run goes, or its first line that is outside the
--- grammar
-abbrev pub ScheduleAsks : Plans → List ℕ → Outcome → Type 0
-ScheduleAsks plans text due =
+-- and over a host with a journal: a full one, or the same
+abbrev pub IsJournalRunDue : WorldStep → List Entry → Outcome → Type 0
+IsJournalRunDue how log due =
+    ((how ≡ went.JournalFull) × (due ≡ JournalFull)) ⊎ ((how ≢ went.JournalFull) × IsRunDue how log due)
+
+-- what the text of a schedule asks for, over a journal of so many slots or without one: its trace, as far as the run
+-- goes, or its first line that is outside the grammar
+abbrev pub ScheduleAsks : Option ℕ → Plans → List ℕ → Outcome → Type 0
+ScheduleAsks None plans text due =
     ((schedule : Schedule) × IsSchedule text schedule.events
     × IsRunDue (went_of plans schedule) (log_of plans schedule) due)
     ⊎ ((number : ℕ) × OutsideAt text number × (due ≡ BadLine number))
+ScheduleAsks (Some slots) plans text due =
+    ((schedule : JournalSchedule) × IsJournalSchedule text schedule.events
+    × IsJournalRunDue (journaled.went_of plans slots schedule) (journaled.log_of plans slots schedule) due)
+    ⊎ ((number : ℕ) × OutsideJournalAt text number × (due ≡ BadLine number))
 
 -- the outcome that is due of a schedule's text
-abbrev pub IsScheduleDue : Plans → List ℕ → Outcome → Type 0
-IsScheduleDue plans text due =
+abbrev pub IsScheduleDue : Option ℕ → Plans → List ℕ → Outcome → Type 0
+IsScheduleDue journal plans text due =
     ((file_limit role.Schedule < length text) × (due ≡ FileLonger role.Schedule))
-    ⊎ ((length text ≤ file_limit role.Schedule) × ScheduleAsks plans text due)
+    ⊎ ((length text ≤ file_limit role.Schedule) × ScheduleAsks journal plans text due)
 
 -- what the text of a plan asks for: its refusal, or what the schedule of this name asks for over the plans that it
 -- means
-abbrev pub PlanAsks : List ℕ → FilesTold → List ℕ → Outcome → Type 0
-PlanAsks schedule files plan due =
+abbrev pub PlanAsks : Option ℕ → List ℕ → FilesTold → List ℕ → Outcome → Type 0
+PlanAsks journal schedule files plan due =
     ((key : List ℕ) × (what : ConfigWhat) × Means plan (refused key what) × (due ≡ BadPlan key what))
     ⊎ ((plans : Plans) × (text : List ℕ) × Means plan (Ok plans)
-    × (told_file schedule files.before ≡ Some text) × IsScheduleDue plans text due)
+    × (told_file schedule files.before ≡ Some text) × IsScheduleDue journal plans text due)
 
 -- the outcome that is due of a plan's text
-abbrev pub IsPlanDue : List ℕ → FilesTold → List ℕ → Outcome → Type 0
-IsPlanDue schedule files plan due =
+abbrev pub IsPlanDue : Option ℕ → List ℕ → FilesTold → List ℕ → Outcome → Type 0
+IsPlanDue journal schedule files plan due =
     ((file_limit role.Plan < length plan) × (due ≡ FileLonger role.Plan))
-    ⊎ ((length plan ≤ file_limit role.Plan) × PlanAsks schedule files plan due)
+    ⊎ ((length plan ≤ file_limit role.Plan) × PlanAsks journal schedule files plan due)
 
 -- the outcome that is due of two files, where the plan is told, and the schedule if it is read
-abbrev pub IsReplayDue : List ℕ → List ℕ → FilesTold → Outcome → Type 0
-IsReplayDue plan schedule files due =
-    (bytes : List ℕ) × (told_file plan files.before ≡ Some bytes) × IsPlanDue schedule files bytes due
+abbrev pub IsReplayDue : Option ℕ → List ℕ → List ℕ → FilesTold → Outcome → Type 0
+IsReplayDue journal plan schedule files due =
+    (bytes : List ℕ) × (told_file plan files.before ≡ Some bytes) × IsPlanDue journal schedule files bytes due
 
 -- ---- commands that run an end over a link
 
@@ -160,29 +172,31 @@ abbrev pub IsLinkedDue :
 IsLinkedDue end LinesAsk plan source files due =
     (bytes : List ℕ) × (told_file plan files.before ≡ Some bytes) × IsTextDue end LinesAsk source bytes due
 
--- what a run asks for by the answers that a link tells to come: how it ends
-abbrev pub RunAsks : {S C : Type 0} → (List LinkIn → RunPiece S C) → LinkTold → Outcome → Type 0
-RunAsks run link due =
+-- what a run asks for by the answers that a link tells to come: how it ends, where a full store is this outcome
+abbrev pub RunAsks : {S C : Type 0} → Outcome → (List LinkIn → RunPiece S C) → LinkTold → Outcome → Type 0
+RunAsks full run link due =
     (contents : LinkContents) × (how : RunEnding) × (link.before ≡ Some contents)
-    × ((run contents.left).ended ≡ Some how) × (due ≡ outcome_of_ending how)
+    × ((run contents.left).ended ≡ Some how) × (due ≡ outcome_with full how)
 
 -- what lines of a script ask of the host
 abbrev pub HostAsks : ℕ → LinkTold → Plans → List ScriptLine → Outcome → Type 0
-HostAsks polls link plans lines due = RunAsks (host_run plans.host lines polls) link due
+HostAsks polls link plans lines due = RunAsks NoMemory (host_run plans.host lines polls) link due
 
--- what they ask of the equipment over a file that a disk tells: the first place at which its bytes break; or they stand
--- for a spool and its setup, and no system bytes are left, or it runs
-abbrev pub BytesAskRun : EquipmentPlan → ℕ → LinkTold → List ScriptLine → List ℕ → Outcome → Type 0
-BytesAskRun plan polls link lines bytes due =
-    ((at : ℕ) × (start_break bytes ≡ Some at) × (due ≡ NotSpool at))
-    ⊎ (((start_break bytes ≡ None) × (is_marked_out (file_in bytes).mark.value ≡ true) × (due ≡ NumbersSpent))
-    ⊎ ((start_break bytes ≡ None) × ((start : Step EquipmentView Happening)
-    × (starts plan (file_in bytes) ≡ Goes start)
-    × RunAsks (equipment_run start lines polls) link due)))
+-- what they ask of an end over a file that a disk tells: the first place at which its bytes break; or they break
+-- nowhere, and no system bytes are left, or it runs
+abbrev pub BytesAskRun :
+    {P S C : Type 0} → Filed P S C → P → ℕ → LinkTold → List ScriptLine → List ℕ → Outcome → Type 0
+BytesAskRun {P} {S} filed plan polls link lines bytes due =
+    ((at : ℕ) × (filed.break_in bytes ≡ Some at) × (due ≡ NotSpool at))
+    ⊎ (((filed.break_in bytes ≡ None) × (is_marked_out (file_in bytes).mark.value ≡ true) × (due ≡ NumbersSpent))
+    ⊎ ((filed.break_in bytes ≡ None) × ((start : Step S Happening)
+    × (filed.starts plan (file_in bytes) ≡ Goes start)
+    × RunAsks filed.full (run_of filed start lines polls) link due)))
 
-abbrev pub EquipmentAsks : ℕ → DiskTold → LinkTold → Plans → List ScriptLine → Outcome → Type 0
-EquipmentAsks polls disk link plans lines due =
-    (s : Story) × (disk.before ≡ Some s) × BytesAskRun plans.equipment polls link lines s.now.bytes due
+abbrev pub FileAsks :
+    {P S C : Type 0} → Filed P S C → P → ℕ → DiskTold → LinkTold → List ScriptLine → Outcome → Type 0
+FileAsks filed plan polls disk link lines due =
+    (s : Story) × (disk.before ≡ Some s) × BytesAskRun filed plan polls link lines s.now.bytes due
 
 -- ---- commands over a spool file
 
@@ -209,13 +223,18 @@ IsDue None source files disk link due = due ≡ Usage
 IsDue (Some Show) source files disk link due = IsInputDue capture_limit CaptureAsks source due
 IsDue (Some Spell) source files disk link due = IsInputDue item_limit TextAsks source due
 IsDue (Some SpellHex) source files disk link due = IsInputDue item_limit HexAsks source due
-IsDue (Some (Replay plan schedule)) source files disk link due = IsReplayDue plan schedule files due
+IsDue (Some (Replay plan schedule)) source files disk link due = IsReplayDue None plan schedule files due
+IsDue (Some (JournalReplay plan schedule slots)) source files disk link due =
+    IsReplayDue (Some slots) plan schedule files due
 IsDue (Some (Equipment plan address spool polls)) source files disk link due =
-    IsLinkedDue side.Equipment (EquipmentAsks polls disk link) plan source files due
+    IsLinkedDue side.Equipment (λ plans. FileAsks tool plans.equipment polls disk link) plan source files due
 IsDue (Some (Host plan address polls)) source files disk link due =
     IsLinkedDue side.Host (HostAsks polls link) plan source files due
+IsDue (Some (JournalHost plan address journal polls)) source files disk link due =
+    IsLinkedDue side.Host (λ plans. FileAsks journal_host plans.host polls disk link) plan source files due
 IsDue (Some (Format spool slots)) source files disk link due = due ≡ Done
 IsDue (Some (Spool spool)) source files disk link due = IsSpoolDue disk due
+IsDue (Some (Drop spool count)) source files disk link due = IsSpoolDue disk due
 IsDue (Some (Make rounds)) source files disk link due = IsMakeDue rounds due
 
 -- an outcome that may come in place of the one that is due: memory ran out, or a count of faults rose
@@ -254,9 +273,10 @@ abbrev pub IsCounted : Bool → ℕ → ℕ → Type 0
 IsCounted true before now = Rose before now
 IsCounted false before now = now ≡ before
 
--- the output may fail beside the disk of the equipment, with the lines of the step in which that has failed
+-- the output may fail beside the disk of an end, with the lines of the step in which that has failed
 abbrev pub MayFailToo : Option Asked → Outcome → Type 0
 MayFailToo (Some (Equipment plan address spool polls)) outcome = outcome ≡ DiskFailed
+MayFailToo (Some (JournalHost plan address journal polls)) outcome = outcome ≡ DiskFailed
 MayFailToo _ outcome = ⊥
 
 -- each fault of the input, the files, the disk, the link and the output is the outcome
@@ -320,6 +340,19 @@ EquipmentsAreAnswered =
     → asked_of words ≡ Some (Equipment plan address spool polls) → IsGiven side.Equipment plan source files
     → (s : Story) → disk.before ≡ Some s → start_break s.now.bytes ≡ None
     → IsAnswered run.outcome ⊎ Hinders source files disk link out run.outcome
+
+-- and such a host with a journal, which may be full, where the disk tells bytes that stand for a spool
+abbrev pub IsJournalAnswered : Outcome → Type 0
+IsJournalAnswered outcome = IsAnswered outcome ⊎ (outcome ≡ JournalFull)
+
+abbrev pub JournalHostsAreAnswered : Type 0
+JournalHostsAreAnswered =
+    (words : List (List ℕ)) (source : SourceTold) (files : FilesTold) (disk : DiskTold) (link : LinkTold)
+    (out err : SinkTold) (status : ℕ) (plan address journal : List ℕ) (polls : ℕ)
+    → (run : IsRun words source files disk link out err status)
+    → asked_of words ≡ Some (JournalHost plan address journal polls) → IsGiven side.Host plan source files
+    → (s : Story) → disk.before ≡ Some s → spool_break s.now.bytes ≡ None
+    → IsJournalAnswered run.outcome ⊎ Hinders source files disk link out run.outcome
 
 -- over objects that do not fail, `show` of a capture without a break ends with status 0 and its lines, but for want of
 -- memory

@@ -1,10 +1,12 @@
 pub mod Equipment
+pub mod Filed
 pub mod Files
 pub mod Gemline
 pub mod HexInput
 pub mod HexReading
 pub mod Host
 pub mod Inputs
+pub mod Journal
 pub mod Laws
 pub mod LinkTold
 pub mod Linked

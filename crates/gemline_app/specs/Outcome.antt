@@ -16,7 +16,7 @@ use Rattle.line_show.specs.declared.printer.Stop.{Stop}
 use Rattle.line_show.specs.declared.printer.Stop.TheVariants as stop
 use Rattle.gemline_app.specs.Words.{name_in}
 use Rattle.gemline_app.specs.declared.outcome.Outcome.{Outcome}
-use Rattle.gemline_app.specs.declared.outcome.Outcome.TheVariants.{Done, Usage, BadFrame, BadText, BadHex, BadItem, BadLine, Longer, FileLonger, FileFailed, ReadFailed, NoMemory, WriteFailed, TurnsSpent, NumbersSpent, Slip, DiskFailed, NotSpool, BadPlan, BadScript, LinkFailed}
+use Rattle.gemline_app.specs.declared.outcome.Outcome.TheVariants.{Done, Usage, BadFrame, BadText, BadHex, BadItem, BadLine, Longer, FileLonger, FileFailed, ReadFailed, NoMemory, WriteFailed, TurnsSpent, NumbersSpent, Slip, DiskFailed, NotSpool, BadPlan, BadScript, LinkFailed, JournalFull}
 
 -- what words come to that are no command
 abbrev pub refusal_of : WordsFault → Outcome
@@ -52,6 +52,7 @@ status_of DiskFailed = 74
 status_of (NotSpool at) = 78
 status_of (BadScript number) = 65
 status_of LinkFailed = 69
+status_of JournalFull = 80
 
 -- a checksum, in four hex digits
 abbrev pub sum_text : ℕ → List ℕ
@@ -93,6 +94,7 @@ head_of DiskFailed = codes "gemline: 74 disk\n"
 head_of (NotSpool at) = codes "gemline: 78 not a spool at " ++ decimal at ++ codes "\n"
 head_of (BadScript number) = codes "gemline: 65 script line " ++ decimal number ++ codes "\n"
 head_of LinkFailed = codes "gemline: 69 link\n"
+head_of JournalFull = codes "gemline: 80 journal full\n"
 
 -- what is wrong with a key
 abbrev pub what_text : ConfigWhat → List ℕ

@@ -1,4 +1,4 @@
--- What `format` and `spool` come to (this profile).
+-- What `format`, `spool` and `drop` come to (this profile).
 use Rattle.std.specs.Prelude.{◌≡◌}
 use Rattle.spool_show.specs.Told.{DiskTold}
 use Rattle.spool_show.specs.declared.spool_end.SpoolEnd.{SpoolEnd}

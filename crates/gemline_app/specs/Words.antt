@@ -1,6 +1,6 @@
 -- The names of files in words, and how long an input may be (this profile).
 use Rattle.std.specs.Prelude.{ℕ, List, [], Option, Some}
-use Rattle.command_words.specs.Asked.{Asked, Equipment, Host, Replay}
+use Rattle.command_words.specs.Asked.{Asked, Equipment, Host, JournalHost, JournalReplay, Replay}
 use Rattle.gemline_app.specs.declared.outcome.FileRole.{FileRole}
 use Rattle.gemline_app.specs.declared.outcome.FileRole.TheVariants.{Plan, Schedule}
 
@@ -8,8 +8,11 @@ use Rattle.gemline_app.specs.declared.outcome.FileRole.TheVariants.{Plan, Schedu
 abbrev pub name_in : Option Asked → FileRole → List ℕ
 name_in (Some (Replay plan schedule)) Plan = plan
 name_in (Some (Replay plan schedule)) Schedule = schedule
+name_in (Some (JournalReplay plan schedule slots)) Plan = plan
+name_in (Some (JournalReplay plan schedule slots)) Schedule = schedule
 name_in (Some (Equipment plan address spool polls)) Plan = plan
 name_in (Some (Host plan address polls)) Plan = plan
+name_in (Some (JournalHost plan address journal polls)) Plan = plan
 name_in _ which = []
 
 -- how long a capture may be, in bytes: 16 MiB

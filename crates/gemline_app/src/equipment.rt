@@ -18,21 +18,21 @@ ghost use Rattle.end_run.specs.Counts.{Counts, StepCounts, counted};
 ghost use Rattle.end_run.specs.Scenes.{Stays};
 ghost use Rattle.end_run.specs.Script.{AreTold};
 ghost use Rattle.end_run.specs.Sides.{told_equipment};
-ghost use Rattle.gemline_app.specs.Equipment.{EquipmentComes, EquipmentReads, EquipmentRuns, FileRuns, RunsFrom, SpoolRuns};
-ghost use Rattle.gemline_app.specs.Equipment.{bytes_told, linked_machine};
+ghost use Rattle.gemline_app.specs.Equipment.{EquipmentComes, FileRuns, RunsFrom, SpoolRuns, linked_machine};
+ghost use Rattle.gemline_app.specs.Filed.{bytes_told};
 ghost use Rattle.gemline_app.specs.LinkTold.{ConnectsOnce, link_told};
 ghost use Rattle.gemline_app.specs.LinkedEquipment.{HoldsOne, IsGoing, IsKnown, LeavesDevice, device_by, device_of, disk_in};
 ghost use Rattle.gemline_app.specs.LinkedEquipment.{linked_view, outcome_of_start, spent_by, unstarted_disk};
 
-use crate::host::{SCRIPT_LIMIT, outcome_of_ending, script_refusal};
-use crate::inputs::{plans_in, whole_input};
+use crate::host::outcome_of_ending;
+use crate::inputs::plans_and_script;
 use crate::outcome::Outcome;
 use arrayvec::ArrayVec;
 use disk_base::{Disk, DiskAnswer};
 use end_run::{Ending, LinkedEnd, run_started};
 use equipment_node::{Ended, Equipment, EquipmentPlan, Starting, ToolCommand};
 use gl_base::{Files, Link, Row, Side, Sink, Source};
-use line_schedule::{Script, ScriptStep, read_script};
+use line_schedule::{Script, ScriptStep};
 use message_end::Stop;
 use message_flow::{NodeInput, Note, StepOut};
 use spool_slots::{Raw, Spent};
@@ -271,49 +271,11 @@ pub(crate) fn equipment<F: Files, R: Source, D: Disk, L: Link, W: Sink>(
     ensures connects { ConnectsOnce side.Equipment address.now (link_told L.Link link.old link.new) }
     ensures tells { TellsAsBefore (D.told disk.old) (D.told disk.new) }
 {
-    match plans_in(alloc, plan, files) {
-        Ok(plans) => run_input(
+    match plans_and_script(alloc, Side::Equipment, plan, files, input) {
+        Ok(inputs) => run_file(
             alloc,
-            &plans.equipment,
-            address,
-            spool,
-            polls,
-            input,
-            disk,
-            link,
-            out,
-        ),
-        Err(refusal) => refusal,
-    }
-}
-
-// Runs the equipment by the script on the input.
-fn run_input<R: Source, D: Disk, L: Link, W: Sink>(
-    alloc: Global,
-    plan: &EquipmentPlan,
-    address: &str,
-    spool: &str,
-    polls: u32,
-    input: &mut R,
-    disk: &mut D,
-    link: &mut L,
-    out: &mut W,
-) -> Outcome
-    requires { EquipmentPlanFits plan.now }
-    ensures came { EquipmentReads plan.now spool.now polls
-        (source_told R.Source input.old input.new)
-        (disk_told D.Disk disk.old disk.new)
-        (link_told L.Link link.old link.new)
-        (sink_told W.Sink out.old out.new)
-        result }
-    ensures connects { ConnectsOnce side.Equipment address.now (link_told L.Link link.old link.new) }
-    ensures tells { TellsAsBefore (D.told disk.old) (D.told disk.new) }
-{
-    match whole_input(alloc, input, SCRIPT_LIMIT) {
-        Ok(text) => run_script(
-            alloc,
-            plan,
-            text.as_slice(),
+            &inputs.plans.equipment,
+            &inputs.script,
             address,
             spool,
             polls,
@@ -322,33 +284,6 @@ fn run_input<R: Source, D: Disk, L: Link, W: Sink>(
             out,
         ),
         Err(refusal) => refusal,
-    }
-}
-
-// Runs the equipment by the script that a text means.
-fn run_script<D: Disk, L: Link, W: Sink>(
-    alloc: Global,
-    plan: &EquipmentPlan,
-    text: &[u8],
-    address: &str,
-    spool: &str,
-    polls: u32,
-    disk: &mut D,
-    link: &mut L,
-    out: &mut W,
-) -> Outcome
-    requires { EquipmentPlanFits plan.now }
-    ensures came { EquipmentRuns plan.now spool.now text.now polls
-        (disk_told D.Disk disk.old disk.new)
-        (link_told L.Link link.old link.new)
-        (sink_told W.Sink out.old out.new)
-        result }
-    ensures connects { ConnectsOnce side.Equipment address.now (link_told L.Link link.old link.new) }
-    ensures tells { TellsAsBefore (D.told disk.old) (D.told disk.new) }
-{
-    match read_script(alloc, text, Side::Equipment) {
-        Ok(script) => run_file(alloc, plan, &script, address, spool, polls, disk, link, out),
-        Err(fault) => script_refusal(fault),
     }
 }
 

@@ -9,25 +9,22 @@ ghost use Rattle.end_run.specs.Counts.{StepCounts, no_device};
 ghost use Rattle.end_run.specs.Scenes.{Always, NothingLeft, Stays};
 ghost use Rattle.end_run.specs.Script.{AreTold};
 ghost use Rattle.end_run.specs.Sides.{told_host};
-ghost use Rattle.gemline_app.specs.Host.{HostComes, HostReads, HostRuns, WasRun};
+ghost use Rattle.gemline_app.specs.Host.{HostComes, WasRun};
 ghost use Rattle.gemline_app.specs.LinkTold.{ConnectsOnce, link_told};
-ghost use Rattle.gemline_app.specs.Linked.{outcome_of_ending, script_refusal};
+ghost use Rattle.gemline_app.specs.Linked.{outcome_of_ending};
 ghost use Rattle.gl_base.specs.declared.side.Side.TheVariants as side;
 ghost use Rattle.gl_base.specs.Told.{files_told, sink_told, source_told};
 
-use crate::inputs::{plans_in, whole_input};
+use crate::inputs::plans_and_script;
 use crate::outcome::Outcome;
 use arrayvec::ArrayVec;
 use end_run::{Ending, LinkedEnd, run_started};
 use gl_base::{Files, Link, Row, Side, Sink, Source};
 use host_node::{Host, HostCommand, HostPlan};
-use line_schedule::{ScheduleFault, Script, ScriptStep, read_script};
+use line_schedule::{Script, ScriptStep};
 use message_end::{End, Stop};
 use message_flow::{NodeInput, StepOut};
 use std::alloc::Global;
-
-/// How long a script may be, in bytes.
-pub(crate) const SCRIPT_LIMIT: usize = 1024 * 1024;
 
 /// The host as it is run over a link.
 #[derive(Drop)]
@@ -131,56 +128,17 @@ pub(crate) fn host<F: Files, R: Source, L: Link, W: Sink>(
         result }
     ensures connects { ConnectsOnce side.Host address.now (link_told L.Link link.old link.new) }
 {
-    match plans_in(alloc, plan, files) {
-        Ok(plans) => run_input(alloc, &plans.host, address, polls, input, link, out),
+    match plans_and_script(alloc, Side::Host, plan, files, input) {
+        Ok(inputs) => run_host(
+            alloc,
+            &inputs.plans.host,
+            &inputs.script,
+            address,
+            polls,
+            link,
+            out,
+        ),
         Err(refusal) => refusal,
-    }
-}
-
-// Runs the host by the script on the input.
-fn run_input<R: Source, L: Link, W: Sink>(
-    alloc: Global,
-    plan: &HostPlan,
-    address: &str,
-    polls: u32,
-    input: &mut R,
-    link: &mut L,
-    out: &mut W,
-) -> Outcome
-    requires { HostPlanFits plan.now }
-    ensures came { HostReads plan.now polls
-        (source_told R.Source input.old input.new)
-        (link_told L.Link link.old link.new)
-        (sink_told W.Sink out.old out.new)
-        result }
-    ensures connects { ConnectsOnce side.Host address.now (link_told L.Link link.old link.new) }
-{
-    match whole_input(alloc, input, SCRIPT_LIMIT) {
-        Ok(text) => run_script(alloc, plan, text.as_slice(), address, polls, link, out),
-        Err(refusal) => refusal,
-    }
-}
-
-// Runs the host by the script that a text means.
-fn run_script<L: Link, W: Sink>(
-    alloc: Global,
-    plan: &HostPlan,
-    text: &[u8],
-    address: &str,
-    polls: u32,
-    link: &mut L,
-    out: &mut W,
-) -> Outcome
-    requires { HostPlanFits plan.now }
-    ensures came { HostRuns plan.now text.now polls
-        (link_told L.Link link.old link.new)
-        (sink_told W.Sink out.old out.new)
-        result }
-    ensures connects { ConnectsOnce side.Host address.now (link_told L.Link link.old link.new) }
-{
-    match read_script(alloc, text, Side::Host) {
-        Ok(script) => run_host(alloc, plan, &script, address, polls, link, out),
-        Err(fault) => script_refusal(fault),
     }
 }
 
@@ -224,7 +182,7 @@ fn run_host<L: Link, W: Sink>(
     ))
 }
 
-/// What the end of a run came to.
+/// What the end of a run came to, of an end without a journal.
 pub fn outcome_of_ending(ended: Ending) -> Outcome
     ensures { result ≡ outcome_of_ending ended }
 {
@@ -235,17 +193,7 @@ pub fn outcome_of_ending(ended: Ending) -> Outcome
         Ending::LinkFailed => Outcome::LinkFailed,
         Ending::WriteFailed => Outcome::WriteFailed,
         Ending::DiskFailed => Outcome::DiskFailed,
-        // (neither end has a journal)
+        // (it has no store of its own that could be full)
         Ending::Full | Ending::NoMemory => Outcome::NoMemory,
-    }
-}
-
-// The refusal of a script's text.
-pub(crate) fn script_refusal(fault: ScheduleFault) -> Outcome
-    ensures { result ≡ script_refusal fault }
-{
-    match fault {
-        ScheduleFault::Line(number) => Outcome::BadScript { number },
-        ScheduleFault::NoMemory => Outcome::NoMemory,
     }
 }

@@ -5,6 +5,7 @@ mod equipment;
 mod hex_input;
 mod host;
 mod inputs;
+mod journal;
 mod laws;
 mod make;
 mod outcome;
@@ -17,7 +18,7 @@ pub use host::outcome_of_ending;
 pub use inputs::plans_in;
 pub use laws::{
     equipments_are_answered, faults_are_told, hex_means_one_item, hosts_are_answered,
-    outcomes_are_due, shows_whole_captures, spelled_reads_back,
+    journal_hosts_are_answered, outcomes_are_due, shows_whole_captures, spelled_reads_back,
 };
 pub use outcome::{FileRole, Outcome};
 pub use run::{gemline, report};

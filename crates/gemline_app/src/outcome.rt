@@ -62,6 +62,8 @@ pub enum Outcome {
     BadScript { number: u32 },
     /// The link failed.
     LinkFailed,
+    /// The host was to list a message for which its journal has no room.
+    JournalFull,
 }
 
 impl Outcome {
@@ -93,6 +95,7 @@ impl Outcome {
             Outcome::NumbersSpent => 77,
             Outcome::DiskFailed => 74,
             Outcome::NotSpool { .. } => 78,
+            Outcome::JournalFull => 80,
         }
     }
 
@@ -137,6 +140,7 @@ impl Outcome {
             Outcome::NotSpool { at } => {
                 put_place(&mut line, b"gemline: 78 not a spool at ", *at);
             }
+            Outcome::JournalFull => put(&mut line, b"gemline: 80 journal full\n"),
         }
         line
     }

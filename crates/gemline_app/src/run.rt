@@ -1,7 +1,7 @@
 //! The top call: words become a command, this is carried out, and its outcome becomes a line and a status.
 
 ghost use Rattle.std.specs.Prelude.{◌≡◌, ◌++◌, ◌≤◌, ℕ, List, None, Some, map, option_map, string_bytes};
-ghost use Rattle.command_words.specs.Asked.{Equipment, Host, IsInRange, Replay, asked_by};
+ghost use Rattle.command_words.specs.Asked.{Equipment, Host, IsInRange, JournalHost, JournalReplay, Replay, asked_by};
 ghost use Rattle.gemline_app.specs.Gemline.{ComesFrom, ComesOnInput, IsRun, WasPrinted, WasShown};
 ghost use Rattle.gemline_app.specs.LinkTold.{link_told};
 ghost use Rattle.gemline_app.specs.Gemline.{WasSpelled, WereSent};
@@ -9,6 +9,7 @@ ghost use Rattle.gemline_app.specs.Outcome.{line_of, name_of, outcome_of_show, r
 ghost use Rattle.gemline_app.specs.Spool.{EndedAs, outcome_of_spool};
 ghost use Rattle.gemline_app.specs.Words.{capture_limit, item_limit, name_in};
 ghost use Rattle.gl_base.specs.Told.{files_told, sink_told, source_told};
+ghost use Rattle.spool_drop.specs.Dropping.{DropsMessages};
 ghost use Rattle.spool_show.specs.Formatting.{FormatsSpool};
 ghost use Rattle.spool_show.specs.Showing.{ShowsSpool};
 ghost use Rattle.spool_show.specs.Told.{disk_told};
@@ -16,6 +17,7 @@ ghost use Rattle.spool_show.specs.Told.{disk_told};
 use crate::equipment::equipment;
 use crate::host::host;
 use crate::inputs::whole_input;
+use crate::journal::journal_host;
 use crate::make::make;
 use crate::outcome::{FileRole, Outcome};
 use crate::replay::replay;
@@ -24,6 +26,7 @@ use command_words::{Command, WordsFault, command_of};
 use disk_base::Disk;
 use gl_base::{Files, Link, Sink, SinkAnswer, Source, copy_out};
 use line_show::{Ending, Stop, show};
+use spool_drop::drop_messages;
 use spool_show::{SpoolEnd, format_spool, show_spool};
 use std::alloc::Global;
 
@@ -40,8 +43,9 @@ const ITEM_LIMIT: usize = 1024 * 1024;
 /// `spell` makes hex with as few length bytes as can be; `spell --hex` makes the text from hex on `input`. `replay`
 /// finds a plan and a schedule in `files`, lets both ends of a line run by them and tells what they do, as a trace.
 /// `equipment` and `host` run an end of a line by a plan in `files` and by the script on `input`, over `link`, and tell
-/// what it does, each line before the characters of its step are sent; the equipment has its spool on `disk`.
-/// `format` makes a spool file on `disk`, and `spool` writes the list of one. `make` lets both ends of a line run by so
+/// what it does, each line before the characters of its step are sent; the equipment has its spool on `disk`, and so has
+/// a host its journal, if it is to have one. `format` makes a spool file on `disk`, `spool` writes the list of one, and
+/// `drop` drops its first messages. `make` lets both ends of a line run by so
 /// many made rounds, and tells how many lines of their trace there are of each kind. `err` gets one line where the
 /// status isn't 0.
 pub fn gemline<F: Files, R: Source, W: Sink, E: Sink, D: Disk, L: Link>(
@@ -161,14 +165,17 @@ fn name_for<'a>(command: Command<'a>, which: FileRole) -> &'a [u8]
 {
     match command {
         Command::Replay { plan, schedule } => one_name(plan, schedule, which),
+        Command::JournalReplay { plan, schedule, .. } => one_name(plan, schedule, which),
         Command::Equipment { plan, .. } => plan_name(plan, which),
         Command::Host { plan, .. } => plan_name(plan, which),
+        Command::JournalHost { plan, .. } => plan_name(plan, which),
         _ => b"",
     }
 }
 
 fn one_name<'a>(plan: &'a str, schedule: &'a str, which: FileRole) -> &'a [u8]
-    ensures { result.now ≡ name_in (Some (Replay plan.now schedule.now)) which }
+    ensures plain { result.now ≡ name_in (Some (Replay plan.now schedule.now)) which }
+    ensures journal { (slots : ℕ) → result.now ≡ name_in (Some (JournalReplay plan.now schedule.now slots)) which }
 {
     match which {
         FileRole::Plan => plan.as_bytes(),
@@ -180,6 +187,8 @@ fn plan_name<'a>(plan: &'a str, which: FileRole) -> &'a [u8]
     ensures equipment { (address spool : List ℕ) (polls : ℕ)
         → result.now ≡ name_in (Some (Equipment plan.now address spool polls)) which }
     ensures host { (address : List ℕ) (polls : ℕ) → result.now ≡ name_in (Some (Host plan.now address polls)) which }
+    ensures journal { (address journal : List ℕ) (polls : ℕ)
+        → result.now ≡ name_in (Some (JournalHost plan.now address journal polls)) which }
 {
     match which {
         FileRole::Plan => plan.as_bytes(),
@@ -210,7 +219,12 @@ fn run<F: Files, R: Source, W: Sink, D: Disk, L: Link>(
         Command::Show => show_input(alloc, input, out),
         Command::Spell => spell_input(alloc, input, out),
         Command::SpellHex => spell_hex_input(alloc, input, out),
-        Command::Replay { plan, schedule } => replay(alloc, plan, schedule, files, out),
+        Command::Replay { plan, schedule } => replay(alloc, plan, schedule, None, files, out),
+        Command::JournalReplay {
+            plan,
+            schedule,
+            slots,
+        } => replay(alloc, plan, schedule, Some(slots), files, out),
         Command::Equipment {
             plan,
             address,
@@ -224,8 +238,17 @@ fn run<F: Files, R: Source, W: Sink, D: Disk, L: Link>(
             address,
             polls,
         } => host(alloc, plan, address, polls, files, input, link, out),
+        Command::JournalHost {
+            plan,
+            address,
+            journal,
+            polls,
+        } => journal_host(
+            alloc, plan, address, journal, polls, files, input, disk, link, out,
+        ),
         Command::Format { spool, slots } => make_spool(spool, slots, out, disk),
         Command::Spool { spool } => list_spool(spool, out, disk),
+        Command::Drop { spool, count } => drop_listed(spool, count, out, disk),
         Command::Make { rounds } => make(alloc, rounds, out),
     }
 }
@@ -291,6 +314,17 @@ fn list_spool<W: Sink, D: Disk>(name: &str, out: &mut W, disk: &mut D) -> Outcom
         result }
 {
     outcome_of_spool(show_spool(disk, name, out))
+}
+
+// Drops the first messages of the spool file of this name.
+fn drop_listed<W: Sink, D: Disk>(name: &str, count: u32, out: &mut W, disk: &mut D) -> Outcome
+    ensures { EndedAs
+        (DropsMessages name.now count
+        (disk_told D.Disk disk.old disk.new)
+        (sink_told W.Sink out.old out.new))
+        result }
+{
+    outcome_of_spool(drop_messages(disk, name, count, out))
 }
 
 // What a word about a spool file came to.

@@ -19,7 +19,8 @@ use Rattle.tool_spool.specs.SpoolKept.{SpoolIsKeptFrom}
 use Rattle.end_run.specs.Commands.{IsTaken, as_it_comes, behind_first, first_of}
 use Rattle.end_run.specs.Commands.Telling.{Says, Stops}
 use Rattle.end_run.specs.Told.{AreNone, GoesBy, MayCome}
-use Rattle.gemline_app.specs.Equipment.{bytes_told, equipment_due, linked_machine}
+use Rattle.gemline_app.specs.Equipment.{equipment_due, linked_machine}
+use Rattle.gemline_app.specs.Filed.{bytes_told}
 use Rattle.gemline_app.specs.Files.{PlansAre}
 use Rattle.gemline_app.specs.LinkTold.{LinkTold}
 use Rattle.gemline_app.specs.Linked.{IsIdle}

@@ -46,7 +46,8 @@ use Rattle.end_run.specs.Script.{AreTold, ScriptLine, by_script}
 use Rattle.end_run.specs.Sides.{told_equipment}
 use Rattle.end_run.specs.declared.ending.Ending.{Ending}
 use Rattle.end_run.proofs.Sides.{are_told_tool}
-use Rattle.gemline_app.specs.Equipment.{EquipmentComes, FileRuns, WasRunOn, bytes_told, equipment_due, equipment_run, linked_machine}
+use Rattle.gemline_app.specs.Equipment.{EquipmentComes, FileRuns, WasRunOn, equipment_due, equipment_run, linked_machine}
+use Rattle.gemline_app.specs.Filed.{bytes_told}
 use Rattle.gemline_app.specs.Files.{PlansAre}
 use Rattle.gemline_app.specs.Gemline.{RunComes}
 use Rattle.gemline_app.specs.Inputs.{WasRead}

@@ -51,7 +51,7 @@ use Rattle.link_courses.specs.Noting.{HasDone, NoReply}
 -- what holds of all that the equipment has noted over a file that held this before, as of a replay: each report and
 -- each answer holds the values of its event or of that moment, and each command has its note; the start finds what the
 -- file held, what is stored goes behind that, and what leaves has its cause, in its step; the oldest message is
--- overwritten for a put alone; and the start carries out the setup that the file held, and what is changed of it is kept
+-- overwritten for a put alone; the start carries out the setup that the file held, and what is changed of it is kept
 pub record KeepsLaws (plan : EquipmentPlan) (file : SpoolFile) (notes : List Happening) : Type 0 where
   pub reported : Reported plan notes
   pub spooled : KeepsSpoolFrom (policy_of plan file.slots) (found_in file.list) notes

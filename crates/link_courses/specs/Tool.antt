@@ -26,8 +26,8 @@ abbrev pub AreTaken : List (List ToolTelling) → Type 0
 AreTaken [] = Unit {0}
 AreTaken (here ∷ coming) = All (IsTaken ToolCommandFits) here × AreTaken coming
 
--- so it was of the plan that was read, and of what it was told beside the link: it is given what it takes where the link
--- gives bytes and each of these commands is such, as all are where the input is told, whatever its bytes
+-- so it was of the plan that was read, and of what it was told beside the link: it is given what it takes where the
+-- link gives bytes and each of these commands is such, as all are where the input is told, whatever its bytes
 pub record ToolRanLawfully (plan bytes : List ℕ) (beside : BesideTold) (files : FilesTold) (link : LinkTold)
     (out : SinkTold) (outcome : Outcome) : Type 0 where
   pub plans : Plans

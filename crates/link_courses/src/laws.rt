@@ -46,8 +46,8 @@ pub fn equipments_keep_their_laws()
 }
 
 /// Each run of `tool` over a disk that tells its bytes, whatever link and output do and whatever comes beside the link,
-/// keeps the same laws. Where the link gives bytes and the tool is told commands that it takes, as those of an input that
-/// is told are, it is of doings that keep the law of an end.
+/// keeps the same laws. Where the link gives bytes and the tool is told commands that it takes, as those of an input
+/// that is told are, it is of doings that keep the law of an end.
 pub fn tools_keep_their_laws()
     ensures { ToolsKeepTheirLaws }
 {

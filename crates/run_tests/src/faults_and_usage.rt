@@ -87,8 +87,8 @@ static OTHER_WORDS: [&'static [&'static str]; 16] = [
     &["host", "plan", "address", "--polls"],
 ];
 
-/// The same of spool files.
-static SPOOL_WORDS: [&'static [&'static str]; 7] = [
+/// The same of spool files and journals.
+static SPOOL_WORDS: [&'static [&'static str]; 13] = [
     &["spool"],
     &["spool", "SPOOL", "SPOOL"],
     &["format", "SPOOL"],
@@ -96,6 +96,12 @@ static SPOOL_WORDS: [&'static [&'static str]; 7] = [
     &["format", "SPOOL", "65536"],
     &["format", "SPOOL", "00000000003"],
     &["format", "SPOOL", "+3"],
+    &["drop", "SPOOL"],
+    &["drop", "SPOOL", "0"],
+    &["drop", "SPOOL", "65536"],
+    &["spool", "SPOOL", "--journal=f"],
+    &["replay", "plan", "schedule", "--journal=0"],
+    &["replay", "plan", "schedule", "--journal=1025"],
 ];
 
 #[test]
@@ -121,6 +127,12 @@ fn are_reported(alloc: Global) -> bool {
         && is_reported(alloc, Outcome::TurnsSpent, 75, "gemline: 75 turns\n")
         && is_reported(alloc, Outcome::Slip, 76, "gemline: 76 slip\n")
         && is_reported(alloc, Outcome::NumbersSpent, 77, "gemline: 77 numbers\n")
+        && is_reported(
+            alloc,
+            Outcome::JournalFull,
+            80,
+            "gemline: 80 journal full\n",
+        )
 }
 
 #[test]

@@ -11,6 +11,8 @@ mod faults_and_usage;
 #[cfg(test)]
 mod host_runs;
 #[cfg(test)]
+mod journal_runs;
+#[cfg(test)]
 mod linked_runs;
 #[cfg(test)]
 mod parsed_words;

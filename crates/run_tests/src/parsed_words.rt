@@ -196,6 +196,47 @@ static EQUIPMENTS: [Case; 4] = [
     (&["equipment", "p", "a", "s", "t"], USAGE),
 ];
 
+/// Words of a journal, and of `drop`.
+static JOURNALS: [Case; 8] = [
+    (
+        &["host", "p", "a", "--journal", "f"],
+        Ok(Command::JournalHost {
+            plan: "p",
+            address: "a",
+            journal: "f",
+            polls: 1_000_000,
+        }),
+    ),
+    (
+        &["host", "--journal=--f", "--polls=5", "p", "a"],
+        Ok(Command::JournalHost {
+            plan: "p",
+            address: "a",
+            journal: "--f",
+            polls: 5,
+        }),
+    ),
+    (
+        &["replay", "p", "s", "--journal=1024"],
+        Ok(Command::JournalReplay {
+            plan: "p",
+            schedule: "s",
+            slots: 1024,
+        }),
+    ),
+    (
+        &["drop", "f", "65535"],
+        Ok(Command::Drop {
+            spool: "f",
+            count: 65535,
+        }),
+    ),
+    (&["host", "p", "a", "--journal"], USAGE),
+    (&["replay", "p", "s", "--journal=1025"], USAGE),
+    (&["equipment", "p", "a", "s", "--journal=f"], USAGE),
+    (&["drop", "f", "0"], USAGE),
+];
+
 static MAKES: [Case; 8] = [
     (&["make", "1"], Ok(Command::Make { rounds: 1 })),
     (
@@ -225,6 +266,11 @@ fn reads_the_number_of_polls(rt: HostRuntime) {
     assert!(rt; are_answered(rt.alloc(), EQUIPMENTS.as_slice()));
     assert!(rt; are_answered(rt.alloc(), HOSTS.as_slice()));
     assert!(rt; are_answered(rt.alloc(), WRONG_HOSTS.as_slice()));
+}
+
+#[test]
+fn reads_the_file_or_the_slots_of_a_journal(rt: HostRuntime) {
+    assert!(rt; are_answered(rt.alloc(), JOURNALS.as_slice()));
 }
 
 #[test]

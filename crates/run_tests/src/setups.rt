@@ -292,8 +292,8 @@ fn a_file_without_an_area_keeps_none(rt: HostRuntime) -> Result<(), Fail> {
 /// The cell of a setup, the first bytes of the area, and where the setup breaks.
 type Broken = (&'static [u8], &'static [u8], &'static str);
 
-/// The cell names a third copy, in its first copy and in its second one; a byte more than a copy has; two bytes that are
-/// none, and two that are no whole entry; and three, of which the second one is no function.
+/// The cell names a third copy, in its first copy and in its second one; a byte more than a copy has; two bytes that
+/// are none, and two that are no whole entry; and three, of which the second one is no function.
 static BROKEN: [Broken; 6] = [
     (
         &[0, 0, 0, 2, 0, 0, 0, 0],

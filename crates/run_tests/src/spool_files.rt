@@ -1,4 +1,4 @@
-//! `format` and `spool` over a disk in memory.
+//! `format`, `spool` and `drop` over a disk in memory.
 
 use crate::played_program::{AREA, End, FOURTH, FRONT, disk_ends_so, disk_with, words_of};
 use std::alloc::Global;
@@ -14,8 +14,8 @@ type Spooling = (
     End<'static>,
 );
 
-/// `format` and `spool`.
-static SPOOLS: [Spooling; 8] = [
+/// `format`, `spool` and `drop`.
+static SPOOLS: [Spooling; 13] = [
     (
         &["format", "SPOOL", "0000000003"],
         [b"", b""],
@@ -72,6 +72,41 @@ static SPOOLS: [Spooling; 8] = [
         1,
         (73, "", "gemline: 73 write\n"),
     ),
+    (
+        &["drop", "SPOOL", "5"],
+        [FRONT, FOURTH],
+        0,
+        0,
+        (0, "dropped 1\n", ""),
+    ),
+    (
+        &["drop", "SPOOL", "1"],
+        [FRONT, b""],
+        0,
+        0,
+        (0, "dropped 0\n", ""),
+    ),
+    (
+        &["drop", "SPOOL", "1"],
+        [b"GLSPX", FOURTH],
+        0,
+        0,
+        (78, "", "gemline: 78 not a spool at 4\n"),
+    ),
+    (
+        &["drop", "SPOOL", "1"],
+        [FRONT, FOURTH],
+        1,
+        1,
+        (74, "", "gemline: 74 disk\n"),
+    ),
+    (
+        &["drop", "SPOOL", "1"],
+        [FRONT, FOURTH],
+        0,
+        1,
+        (73, "", "gemline: 73 write\n"),
+    ),
 ];
 
 /// Whether words over a disk end so.
@@ -86,7 +121,7 @@ fn is_spooling(alloc: Global, case: &Spooling) -> bool {
 }
 
 #[test]
-fn spool_files_are_made_and_listed(rt: HostRuntime) -> Result<(), Fail> {
+fn spool_files_are_made_listed_and_emptied(rt: HostRuntime) -> Result<(), Fail> {
     for case in &SPOOLS {
         assert!(rt; is_spooling(rt.alloc(), case));
     }

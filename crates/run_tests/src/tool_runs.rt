@@ -10,8 +10,8 @@ use gl_base::{LinkIn, MemLink, NoMemory, Row};
 use std::alloc::Global;
 use std::test::Fail;
 
-/// Words of `equipment` behind the plan, the first bytes of a file of three slots and of slot 1, a script, which call of
-/// the disk, of the output and of the link fails, and the end.
+/// Words of `equipment` behind the plan, the first bytes of a file of three slots and of slot 1, a script, which call
+/// of the disk, of the output and of the link fails, and the end.
 type ToolCase = (
     &'static [&'static str],
     [&'static [u8]; 2],

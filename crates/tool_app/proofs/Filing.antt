@@ -3,7 +3,7 @@ use Rattle.std.proofs.Common.{◌≡◌, subst, ℕ, Option}
 use Rattle.disk_base.specs.Story.{Story}
 use Rattle.gl_base.specs.Told.{SinkTold}
 use Rattle.equipment_tables.specs.declared.plan.EquipmentPlan.{EquipmentPlan}
-use Rattle.gemline_app.specs.Equipment.{BytesTold}
+use Rattle.gemline_app.specs.Filed.{BytesTold}
 use Rattle.gemline_app.specs.LinkTold.{LinkTold}
 use Rattle.gemline_app.specs.declared.outcome.Outcome.{Outcome}
 use Rattle.tool_app.specs.Tool.{BesideTold, SpoolComes}

@@ -22,7 +22,8 @@ use Rattle.end_run.specs.Run.{commanded_run}
 use Rattle.end_run.specs.Scenes.{StopAt}
 use Rattle.end_run.specs.Told.{MayCome}
 use Rattle.end_run.specs.declared.ending.Ending.{Ending}
-use Rattle.gemline_app.specs.Equipment.{BytesTold, HoldsLeft, counted_after, counted_before, equipment_due, linked_machine}
+use Rattle.gemline_app.specs.Equipment.{HoldsLeft, equipment_due, linked_machine}
+use Rattle.gemline_app.specs.Filed.{BytesTold, counted_after, counted_before}
 use Rattle.gemline_app.specs.LinkTold.{LinkTold}
 use Rattle.gemline_app.specs.Linked.{after_run, before_run}
 use Rattle.live_commands.specs.Coming.{at_start}

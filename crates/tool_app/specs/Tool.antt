@@ -6,7 +6,8 @@ use Rattle.equipment_tables.specs.declared.plan.EquipmentPlan.{EquipmentPlan}
 use Rattle.equipment_tables.specs.declared.plan.Plans.{Plans}
 use Rattle.end_run.specs.declared.ending.Ending.{Ending}
 use Rattle.end_run.specs.declared.ending.Ending.TheVariants.{LinkFailed}
-use Rattle.gemline_app.specs.Equipment.{BytesTold, IsAllIdle, IsNotTaken, StartRefuses, bytes_told}
+use Rattle.gemline_app.specs.Equipment.{StartRefuses}
+use Rattle.gemline_app.specs.Filed.{BytesTold, IsAllIdle, IsNotTaken, bytes_told}
 use Rattle.gemline_app.specs.Files.{PlanRefuses, PlansAre}
 use Rattle.gemline_app.specs.LinkTold.{LinkTold}
 use Rattle.gemline_app.specs.Linked.{IsIdle, outcome_of_ending}

@@ -13,7 +13,7 @@ ghost use Rattle.equipment_tables.specs.Plan.{EquipmentPlanFits};
 ghost use Rattle.tool_step.specs.Equipment.{EquipmentView};
 ghost use Rattle.equipment_node.specs.Held.{IsIn, view_in};
 ghost use Rattle.end_run.specs.Counts.{Counts, counted};
-ghost use Rattle.gemline_app.specs.Equipment.{bytes_told};
+ghost use Rattle.gemline_app.specs.Filed.{bytes_told};
 ghost use Rattle.gemline_app.specs.LinkTold.{ConnectsOnce, link_told};
 ghost use Rattle.gemline_app.specs.LinkedEquipment.{device_of};
 ghost use Rattle.tool_app.specs.Run.{RunsLive};

@@ -2,6 +2,7 @@
 
 use Rattle.std.proofs.Common.{inl, inr, refl, ◌∙◌}
 use Rattle.spool_show.proofs.SpoolFiles.{attached}
+use Rattle.gemline_app.specs.Equipment.{HoldsLeft, tool}
 use Rattle.gemline_app.proofs.Filing.{spool_same}
 use Rattle.gl_base.specs.declared.side.Side.TheVariants as side
 use Rattle.gemline_app.proofs.Connecting.{uncalled}
@@ -12,7 +13,7 @@ pub returns-in-Done-clause-came : goal.returns-in-Done-clause-came
 returns-in-Done-clause-came g c =
     inr (
       c.run_attached.ensures.file ∙ c.in-Done.ensures.file,
-      spool_same _ _ _ _ _ (attached c.in-Done.ensures.told) refl c.in-Done.ensures.cause.same refl refl
+      spool_same tool HoldsLeft _ _ _ _ _ (attached c.in-Done.ensures.told) refl c.in-Done.ensures.cause.same refl refl
           c.run_attached.ensures.runs,
     )
 

@@ -2,5 +2,5 @@
 
 use Rattle.gemline_app.proofs.replay.replay.Goals as goal
 
-pub replay_over-requires : goal.replay_over-requires
-replay_over-requires g c = c.in-Ok.ensures.is.fits
+pub replay_over-requires-clause-plans : goal.replay_over-requires-clause-plans
+replay_over-requires-clause-plans g c = c.in-Ok.ensures.is.fits

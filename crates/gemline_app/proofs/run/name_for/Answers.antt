@@ -1,4 +1,4 @@
--- The file of `host` and that of `equipment` is the plan.
+-- The file of `host` and that of `equipment` is the plan, and `replay` has two.
 
 use Rattle.std.proofs.Common.{◌∙◌, Some, ap, sym}
 use Rattle.command_words.specs.Asked.{asked_by}
@@ -15,3 +15,14 @@ pub returns-in-Equipment : goal.returns-in-Equipment
 returns-in-Equipment c =
     c.plan_name.ensures.equipment c.in-Equipment.address.now c.in-Equipment.spool.now c.in-Equipment.polls
     ∙ sym (ap (λ (command : Command). name_in (Some (asked_by command)) c.args.which) c.in-Equipment.is)
+
+pub returns-in-JournalHost : goal.returns-in-JournalHost
+returns-in-JournalHost c =
+    c.plan_name-in-JournalHost.ensures.journal c.in-JournalHost.address.now c.in-JournalHost.journal.now
+    c.in-JournalHost.polls
+    ∙ sym (ap (λ (command : Command). name_in (Some (asked_by command)) c.args.which) c.in-JournalHost.is)
+
+pub returns-in-JournalReplay : goal.returns-in-JournalReplay
+returns-in-JournalReplay c =
+    c.one_name-in-JournalReplay.ensures.journal c.in-JournalReplay.slots
+    ∙ sym (ap (λ (command : Command). name_in (Some (asked_by command)) c.args.which) c.in-JournalReplay.is)

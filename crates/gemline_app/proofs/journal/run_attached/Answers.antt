@@ -1,0 +1,12 @@
+-- The device that is run over is the attached disk.
+
+use Rattle.std.proofs.Common.{refl, rules}
+use Rattle.journal_link.specs.Linked.{HoldsLeft}
+use Rattle.gemline_app.specs.Journal.{journal_host}
+use Rattle.gemline_app.proofs.Filing.{spool_same}
+use Rattle.gemline_app.proofs.journal.run_attached.Goals as goal
+
+pub returns-clause-runs : goal.returns-clause-runs
+returns-clause-runs g c =
+    spool_same journal_host HoldsLeft _ _ _ _ _ (search rules) (search rules) (search rules) (search rules) refl
+    c.run_over-outcome.ensures.runs
