@@ -2,8 +2,9 @@
 what must stand in its spool file behind a run that failed.
 
 An end of a line runs with the other end, which nothing fails in. The tool finds two messages in a file of three slots
-and stores two alarms, of which the second overwrites a message. The host asks for one message, enables all events, which
-the tool keeps, and asks then for a purge of the rest; the last alarm goes to it at once.
+and stores two alarms, of which the second overwrites a message. The host asks for one message, enables all events,
+which the tool keeps, and asks then for a purge of the rest; the last alarm goes to it at once. A host with a journal,
+of version 1 at first, does the same and lists both.
 """
 import os
 import subprocess
@@ -60,6 +61,10 @@ SPOOL, LISTED = example("spools/two-messages.spool"), example("spools/two-messag
 # The tool's file has an area for a setup.
 EQUIPMENT = Case("equipment", ["equipment", "plan", "", "spool"], TOOL, plan=PLAN, spool=SPOOL + bytes(2 * COPY))
 OTHER_END = Case("host", ["host", "plan", ""], HOST, plan=PLAN)
+# The journal has the name of a spool file, since what fails in it is judged so.
+JOURNAL = Case("host, a journal", ["host", "plan", "", "--journal", "spool"], HOST, plan=PLAN,
+               spool=(b"GLSPOOL1\0\0\0\x10").ljust(4096 * 17, b"\0"))
+DROP = Case("drop", ["drop", "spool", "1"], spool=SPOOL)
 CASES = [
     Case("show", ["show"], SHOWN),
     Case("spell", ["spell"], example("items/nested.text")),
@@ -74,8 +79,10 @@ CASES = [
     Case("format", ["format", "spool", "3"]),
     Case("spool", ["spool", "spool"], spool=SPOOL),
     Case("no spool", ["spool", "spool"], status=78, spool=example("spools/other-name.spool")),
+    DROP,
     EQUIPMENT,
     OTHER_END,
+    JOURNAL,
 ]
 
 
@@ -253,6 +260,12 @@ class Judge:
     def of_file(self, ran, status):
         if self.case is EQUIPMENT:
             return self.of_spool(ran, status)
+        if self.case is JOURNAL:
+            return self.of_journal(ran, status)
+        if self.case is DROP:
+            left = LISTED[2:] if status in (0, 73) else LISTED[1:]
+            if ran.listed[1:] not in ([left, LISTED[2:]] if status == 74 else [left]):
+                return [f"the spool file has {ran.listed[1:]}"]
         if self.case.words[0] == "spool" and ran.left["spool"] != self.case.files["spool"]:
             return ["the spool file has changed"]
         if self.case.words[0] == "format" and status in (0, 73) and ran.listed != self.whole.listed:
@@ -278,4 +291,21 @@ class Judge:
         is_started = lines_of(self.case, ran.out)[:1] == ["E start len=2 base=8192\n"]
         if mark_of(ran.listed) not in ([12288] if is_started else [8192, 12288]):
             wrong.append(f"the spool file has {ran.listed[0]}")
+        return wrong
+
+    def of_journal(self, ran, status):
+        """The records are those whose lines tell of them, in order. With 74 the one that was being listed may be there,
+        and with 71 and 73 the lines of the last step may lack."""
+        if ran.listed is None:
+            return ["no journal is left"]
+        wrong, told, records = [], ran.out.count(" H listed "), ran.listed[1:]
+        if records != self.whole.listed[1:][:len(records)]:
+            wrong.append(f"the journal has {records}, which is no front of {self.whole.listed[1:]}")
+        if len(records) - told not in ([0, 1] if status in (71, 73, 74) else [0]):
+            wrong.append(f"the journal has {len(records)} records, by {told} lines")
+        if status in (66, 68) and ran.left["spool"] != self.case.files["spool"]:
+            wrong.append("the journal has changed")
+        is_started = lines_of(self.case, ran.out)[:1] == ["H start len=0 base=0\n"]
+        if mark_of(ran.listed) not in ([4096] if is_started else [0, 4096]):
+            wrong.append(f"the journal has {ran.listed[0]}")
         return wrong

@@ -54,9 +54,16 @@ def drawn(seed):
     return one.plan(), one.schedule()
 
 
+def drawn_with_journal(seed):
+    """The same, with losses of either end's power, and how many slots the host's journal has."""
+    rng = random.Random(seed)
+    one = Drawing(rng, ["cut", "hcut"])
+    return one.plan(), one.schedule(), rng.choice([1024, 1024, 1024, 300, 100, 40, 12, 5, 1])
+
+
 class Drawing:
-    def __init__(self, rng):
-        self.rng, self.value = rng, 0
+    def __init__(self, rng, cuts=("cut",)):
+        self.rng, self.value, self.cuts = rng, 0, cuts
         self.retries = rng.choice([0, 0, 1, 1, 2])
         self.slots, self.repeats, self.max_body = rng.choice([1, 2, 2, 3, 4, 6]), 1, rng.choice([None] * 3 + [400])
         # What lengths the second variable has, its first one, and how often it is set: a report takes one block, or two,
@@ -170,6 +177,12 @@ class Drawing:
     def letters(self, count):
         return chr(97 + self.value % 26) * count
 
+    def planned(self):
+        """Whose power goes. Of two that are planned before one event the last one counts."""
+        if len(self.cuts) == 1:
+            return self.cuts
+        return self.rng.choices(self.cuts, k=self.rng.choice([1, 1, 1, 1, 2]))
+
     def events(self):
         count = self.rng.randrange(1, 4)
         return [f"tool set 1 <U4 {self.value}>"] + [f"tool event {self.rng.choice([1, 1, 2])}" for _ in range(count)]
@@ -195,5 +208,6 @@ class Drawing:
         ways = [self.line, self.events, lambda: ["settle"], lambda: SPOOLED, lambda: PURGED, self.unload, self.failure]
         lines = list(pick(ways)())
         call = pick([1, 1, 2, 2, 3, 3, 4, 4, 5, 5, 6, 7, 8, 10, 12, 15])
-        lines.insert(rng.randrange(len(lines)), f"cut {call} {choice}")
+        for cut in self.planned():
+            lines.insert(rng.randrange(len(lines)), f"{cut} {call} {choice}")
         return lines + pick([["settle", *self.reported], ["settle"], ["settle"], []])

@@ -1,4 +1,5 @@
-"""A reading of the spool file: the calls of the disk that each work makes, and what a loss of power at one of them leaves.
+"""A reading of the spool file, which a journal is, too: the calls of the disk that each work makes, and what a loss of
+power at one of them leaves.
 
 A slot has a gate, which is open where its byte is 5A, and a message stands where the slot of its number is open and the
 number is at least the floor. A message takes as many slots as its body needs, and as many numbers. These slots hold
@@ -11,8 +12,9 @@ So a work is a row of updates, and an update changes the file by gates that one 
 these change nothing, and at a gate's write or the sync the bytes that the disk keeps decide.
 """
 OPEN = 0x5A
-STEP = 4096
 AREA = 4081
+# How many system bytes a start sets aside, and how many are left where a step sets as many aside again.
+ASIDE, FEW = 4096, 128
 
 
 def size_of(body):
@@ -114,7 +116,7 @@ class File:
         if work == "purge":
             return [self.floor.to(self.next)]
         if work == "reserve":
-            return [self.mark.to(self.mark.value + STEP)]
+            return [self.mark.to(self.mark.value + ASIDE)]
         return [Update(self.sizes[standing[0]])]      # the oldest message is read
 
     def closing(self, slot):
@@ -141,3 +143,59 @@ class File:
             call -= update.calls
             update.carry_out()
         return False
+
+
+class Disk:
+    """The disk of an end that may lose its power, with the system bytes that this end has set aside there."""
+
+    def __init__(self, slots):
+        self.file = File(slots)
+        self.counted = None                         # the calls before the last loss, in its event
+        self.begin(0)
+
+    def begin(self, base):
+        """A new start of the end, whose system bytes begin there."""
+        self.calls = None                           # those made in an event in which power goes
+        self.base = self.drawn = base               # the first system bytes, and those behind the last
+        self.aside, self.is_short = ASIDE, False    # and whether the next step sets more aside
+
+    def carry_out(self, work, what=None):
+        calls = self.file.carry_out(work, what)
+        if self.calls is not None:
+            self.calls += calls
+
+    def draw(self, system):
+        """Draws these system bytes. Answers what is wrong with them."""
+        self.drawn = system + 1
+        return None if self.base <= system < self.base + self.aside else "system bytes that weren't set aside"
+
+    def end_step(self):
+        self.is_short = self.drawn - self.base > self.aside - FEW
+
+    def set_aside(self):
+        """A step begins with this where few system bytes were left behind the one before it."""
+        self.carry_out("reserve")
+        self.aside, self.is_short = self.aside + ASIDE, False
+
+    def lose(self, cut, begun):
+        """Power goes at a call, behind those that were counted in its event, or at the event's end, while a work is under
+        way or none. Answers what is wrong with that."""
+        self.counted = self.calls
+        if self.calls is None:
+            return None
+        if self.is_short and self.file.lose("reserve", None, cut.call - self.calls, cut):
+            return None
+        if self.is_short:
+            self.calls += 5
+        call = cut.call - self.calls
+        if call < 1 or begun and not self.file.lose(*begun, call, cut):
+            return f"this is no loss at call {cut.call}, for {self.calls} are made before"
+        return None
+
+    def start(self):
+        """What a start does: it sees what stands, and sets system bytes aside. Answers the first of them."""
+        base = self.file.mark.value
+        self.file.start()
+        self.file.carry_out("reserve")
+        self.begin(base)
+        return base

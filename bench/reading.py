@@ -20,6 +20,9 @@
    answer, and only there. A start finds what was kept, the request that was being kept last or not, as the call of the
    disk at which power went decides, and has the tables that this makes of the plan's (setting.py). So an event or an
    alarm makes a message only where it is enabled, and the spool takes what its rule names.
+7. A host with a journal lists each alarm, report and text that it takes, before it writes anything, and what it lists
+   comes in the order of storing, as in 4. What is confirmed is listed. A start of it finds what it has listed, in
+   order; what was being listed may stand last, as in 3; and it draws no system bytes twice (listing.py).
 
 A trace has no values of `tool set` and no texts of terminals: they are taken from the schedule. It has no body behind
 `storing`: that is the message which was made just before, or one of those that were open when the communication was
@@ -28,7 +31,8 @@ it leaves. Nor does it say whether a request without W was accepted, which is ju
 """
 import tomllib
 
-from keeping import Cut, File, size_of
+from keeping import Cut, Disk, size_of
+from listing import Journal
 from setting import CHANGES, ENABLE_SPOOL, OVERWRITE, Tables, is_accepted, kept_behind
 from spelling import headed, leave_for, list_of, parsed, spelled, u4
 from tracing import MOVES, Tracing, moments_of
@@ -68,21 +72,30 @@ class Plan:
 
 
 class Commands:
-    """What a schedule gives to one start of the tool: values and texts, in order, and the loss of power at its end, with
-    the number of the line before which that comes."""
+    """What a schedule gives to one start of the tool: values and texts, in order."""
 
     def __init__(self):
-        self.sets, self.texts, self.cut, self.place = [], [], None, None
+        self.sets, self.texts = [], []
+
+
+class Loss:
+    """A loss of power that a schedule plans: of which end, how, and before which of its lines."""
+
+    def __init__(self, side, cut, place):
+        self.side, self.cut, self.place = side, cut, place
+
+
+SIDES = {"cut": "E", "hcut": "H"}
 
 
 def starts_of(plan, schedule):
-    """What each start of the tool is told: the event behind a `cut` is the last one of its start."""
-    starts, is_cut = [Commands()], False
+    """What each start of the tool is told, and the losses of power: the event behind a `cut` is the last one of the
+    tool's start. Of several such lines before an event the last one counts, whichever end it names."""
+    starts, losses, planned = [Commands()], [], None
     for place, line in enumerate(schedule.splitlines()):
         words = line.split(" ", 3)
-        if words[0] == "cut":
-            is_cut = True
-            starts[-1].cut = Cut(words[1:])
+        if words[0] in SIDES:
+            planned = SIDES[words[0]], Cut(words[1:])
         elif line and line[0] != "#":
             if words[:2] == ["tool", "set"]:
                 variable, (kind, value) = int(words[2]), spelled(words[3])
@@ -91,11 +104,12 @@ def starts_of(plan, schedule):
             elif words[:2] == ["tool", "terminal"]:
                 terminal = headed("B", 1, bytes([int(words[2])]))
                 starts[-1].texts.append(list_of([terminal, spelled(words[3])[1]]))
-            if is_cut:
-                starts[-1].place = place
-                starts.append(Commands())
-                is_cut = False
-    return starts
+            if planned:
+                losses.append(Loss(*planned, place))
+                if planned[0] == "E":
+                    starts.append(Commands())
+                planned = None
+    return starts, losses
 
 
 class Message:
@@ -117,18 +131,20 @@ ONLINE = ("LOCAL", "REMOTE")
 UNLOADED = Message("unloaded", None)
 # Of an event or an alarm that makes a message, the next line of the tool.
 MADE = ("sent", "dropped", "full", "toolong", "discarded", "storing", "leaving")
-# How many system bytes a start sets aside, and how many are left where it sets as many aside again.
-ASIDE, FEW = 4096, 128
 
 
 class Reading:
-    def __init__(self, plan_text, schedule):
+    """A reading of one trace; with the number of its journal's slots where the host has one."""
+
+    def __init__(self, plan_text, schedule, slots=None):
         self.plan = Plan(plan_text)
-        self.starts = starts_of(self.plan, schedule)
+        self.starts, self.planned = starts_of(self.plan, schedule)
         self.moments = moments_of(schedule)[::-1]   # those that are still to come, the next one last
-        self.broken, self.losses, self.now = [], 0, 0
-        self.counted = None                         # the calls of the disk before the last loss, in its event
-        self.file = File(self.plan.slots)
+        self.broken, self.now = [], 0
+        self.losses, self.lost = 0, 0               # of the tool's power, and of both ends'
+        self.status = 0                             # that the run ends with, but for a slip
+        self.disk = Disk(self.plan.slots)
+        self.journal = Journal(slots, self) if slots else None
         self.begins = []                            # of each event in which power goes, the lines before it, where known
         self.sent = {"E": set(), "H": set()}        # of all starts
         self.requests = {"E": set(), "H": set()}    # the system bytes of the requests among them
@@ -147,12 +163,9 @@ class Reading:
         self.tables = None                          # until it is known what is kept
         self.refusals = 0                           # how many kept requests are still to be told as refused
         self.tracing = Tracing(self.plan)
-        self.calls = None                           # of the disk, in an event in which power goes
-        self.aside, self.is_short = ASIDE, False    # system bytes; whether the next step sets more aside
         self.is_communicating, self.is_online = False, self.plan.control in ONLINE
         self.is_active = bool(self.standing)        # whether it spools
         self.unanswered = set()                     # the system bytes of what waits for a reply
-        self.base = self.drawn = 0                  # the first system bytes, and those behind the last
         self.events = {}                            # their messages, by their bodies
         self.open = {}                              # what waits for a reply, by the system bytes that were sent
         self.failed = []                            # what was open when the communication was lost, to be stored
@@ -171,7 +184,14 @@ class Reading:
 
     def places(self):
         """Of each event in which power goes, how many lines of the schedule stand before it."""
-        return [start.place for start in self.starts[:-1]]
+        return [loss.place for loss in self.planned]
+
+    def counted(self):
+        """The calls of the disk before the last loss, in its event."""
+        return self.disk_of(self.planned[-1].side).counted if self.planned else None
+
+    def disk_of(self, side):
+        return self.disk if side == "E" else self.journal and self.journal.disk
 
     def read(self, trace, begins=()):
         """All that the lines of a trace break. Where it is told how many of them stand before each event in which power
@@ -180,12 +200,12 @@ class Reading:
         for self.at, self.line in enumerate(trace, 1):
             now, *words = self.line.split(" ")
             self.to_moment(int(now))
-            if self.losses < len(begins) and self.at == begins[self.losses] + 1:
-                self.calls = 0
+            if self.lost < len(begins) and self.at == begins[self.lost] + 1:
+                self.disk_of(self.planned[self.lost].side).calls = 0
             if words[0] == "end":
                 self.breaks_by(self.tracing.missing())
-                if self.losses != len(self.starts) - 1:
-                    self.breaks(f"{self.losses} losses of power where {len(self.starts) - 1} were planned")
+                if self.lost != len(self.planned):
+                    self.breaks(f"{self.lost} losses of power where {len(self.planned)} were planned")
                 break
             side, kind, *words = words
             if side == "E":
@@ -202,8 +222,11 @@ class Reading:
                 self.judge(kind)
             if side == "E":
                 self.settle(kind, words)
-            if side == "E" and self.is_short and kind not in ("power", "start"):
-                self.set_aside()
+            if side == "H" and self.journal:
+                self.breaks_by(self.journal.missing(kind))
+            disk = self.disk_of(side)
+            if disk and disk.is_short and kind not in ("power", "start"):
+                disk.set_aside()
             try:
                 getattr(self, f"{'tool' if side == 'E' else 'host'}_{kind}", lambda *words: None)(*words)
             except (IndexError, KeyError, TypeError, ValueError):
@@ -211,9 +234,11 @@ class Reading:
             if side == "E":
                 if kind not in ("event", "alarm", "leaving", "gone"):
                     self.made = None
-                if kind == "tx":
-                    self.is_short = self.drawn - self.base > self.aside - FEW
                 self.before = [kind, *words]
+            if kind == "tx" and disk:
+                disk.end_step()
+        if self.journal and self.journal.is_full():
+            self.status = 80
         return self.broken
 
     def to_moment(self, now):
@@ -252,8 +277,8 @@ class Reading:
             if system in self.requests[side]:
                 self.breaks("system bytes that an earlier request had")
             self.requests[side].add(system)
-            if side == "E":
-                self.drawn = int(system, 16) + 1
+            if self.disk_of(side):
+                self.breaks_by(self.disk_of(side).draw(int(system, 16)))
         return " ".join(name), system, b"" if body == "-" else bytes.fromhex(body)
 
     def takes(self, side, words):
@@ -270,26 +295,46 @@ class Reading:
         self.gives("H", words)
 
     def host_rx(self, *words):
-        name, system, _ = self.takes("H", words)
+        name, system, body = self.takes("H", words)
         if name.endswith(" W") and system in self.tries:
-            put = self.tries[system]
-            if self.taken[-1:] != [put]:
-                self.taken.append(put)
-            due = [put for put in self.puts if put in self.taken or put.cause not in ("purged", "overwritten")]
-            if self.taken != due[:len(self.taken)]:
-                self.breaks(f"the host takes {numbers(self.taken)} where {numbers(due)} is the order")
+            self.comes(self.taken, self.tries[system], "takes")
+        if self.journal:
+            self.journal.take(name, system, body)
+
+    def comes(self, all_so_far, put, does):
+        """A put is taken, or listed, behind others. None is skipped but what was purged or overwritten."""
+        if all_so_far[-1:] != [put]:
+            all_so_far.append(put)
+        due = [put for put in self.puts if put in all_so_far or put.cause not in ("purged", "overwritten")]
+        if all_so_far != due[:len(all_so_far)]:
+            self.breaks(f"the host {does} {numbers(all_so_far)} where {numbers(due)} is the order")
+
+    def host_power(self):
+        if not self.journal:
+            return self.breaks("it has no journal")
+        self.breaks_by(self.journal.lose(self.loses("H")))
+
+    def host_start(self, *words):
+        self.received["H"] = set()
+        if self.journal:
+            self.breaks_by(self.journal.start(*words))
+
+    def host_listing(self, *words):
+        self.breaks_by(self.journal.begin_listing(*words) if self.journal else "it has no journal")
+
+    def host_listed(self, *words):
+        self.breaks_by(self.journal.end_listing(*words) if self.journal else "it has no journal")
 
     # Power, and the disk.
 
-    def carry_out(self, work, what=None):
-        calls = self.file.carry_out(work, what)
-        if self.calls is not None:
-            self.calls += calls
-
-    def set_aside(self):
-        """A step begins with this where few system bytes were left behind the one before it."""
-        self.carry_out("reserve")
-        self.aside, self.is_short = self.aside + ASIDE, False
+    def loses(self, side):
+        """An end loses its power. Answers how that was planned."""
+        loss = self.planned[self.lost] if self.lost < len(self.planned) else None
+        self.lost += 1
+        if not loss or loss.side != side:
+            self.breaks("no loss of this end's power is planned here")
+            return None
+        return loss.cut
 
     def work(self):
         kind, put = self.moving
@@ -308,35 +353,26 @@ class Reading:
         self.losses += 1
         # It may go before the samples have their lines, while a message is stored or system bytes are set aside.
         missing, is_moving = self.tracing.missing(), self.before and self.before[0] in MOVES
-        if not is_moving and not self.is_short:
+        if not is_moving and not self.disk.is_short:
             self.breaks_by(missing)
-        if self.calls is not None:
-            self.lose(self.commands.cut)
-        self.counted = self.calls
-
-    def lose(self, cut):
-        """Power goes at a call of the disk, behind those that were counted in its event, or at the event's end."""
-        if self.is_short and self.file.lose("reserve", None, cut.call - self.calls, cut):
-            return
-        if self.is_short:
-            self.calls += 5
-        call, begun = cut.call - self.calls, self.under_way()
-        if call < 1 or begun and not self.file.lose(*begun, call, cut):
-            self.breaks(f"this is no loss at call {cut.call}, for {self.calls} are made before")
+        self.is_guessed = self.disk.calls is None
+        cut = self.loses("E")
+        if cut:
+            self.breaks_by(self.disk.lose(cut, self.under_way()))
 
     def guess(self, found, base):
         """Where calls aren't counted, what a start finds says whether a work was done."""
         if self.moving and found != len(self.standing):
-            self.file.carry_out(self.work(), self.size())
-        if self.is_short and base != self.file.mark.value:
-            self.file.carry_out("reserve")
+            self.disk.file.carry_out(self.work(), self.size())
+        if self.disk.is_short and base != self.disk.file.mark.value:
+            self.disk.file.carry_out("reserve")
 
     def find_setup(self, found):
         """A start finds so many kept requests, and carries them out. Where calls aren't counted, their number says whether
         one was kept as power went."""
-        if self.is_guessed and self.keeping is not None and found != len(self.file.setup.value):
-            self.file.carry_out("keep", self.keeping)
-        self.keeping, kept = None, self.file.setup.value
+        if self.is_guessed and self.keeping is not None and found != len(self.disk.file.setup.value):
+            self.disk.file.carry_out("keep", self.keeping)
+        self.keeping, kept = None, self.disk.file.setup.value
         if found != len(kept):
             self.breaks(f"{len(kept)} requests are kept")
         self.tables = Tables(self.plan, kept)
@@ -344,11 +380,10 @@ class Reading:
 
     def tool_start(self, found, base):
         found, base = int(found[len("len="):]), int(base[len("base="):])
-        self.is_guessed = self.calls is None
         if self.is_guessed:
             self.guess(found, base)
         kind, put = self.moving or (None, None)
-        standing = self.file.standing()
+        standing = self.disk.file.standing()
         if kind == "storing" and put.number in standing:
             self.standing.append(put)
         elif kind == "storing":
@@ -358,13 +393,11 @@ class Reading:
         if found != len(standing) or numbers(self.standing) != standing:
             self.breaks(f"{standing} are to stand in the spool, and {numbers(self.standing)} stood")
             self.standing = self.standing[:found]
-        if base != self.file.mark.value:
-            self.breaks(f"{self.file.mark.value} system bytes were set aside")
-        self.file.start()
-        self.file.carry_out("reserve")
+        due = self.disk.start()
+        if base != due:
+            self.breaks(f"{due} system bytes were set aside")
         self.moving = None
         self.begin()
-        self.base = self.drawn = base
 
     # Values, and what is made of them.
 
@@ -416,12 +449,12 @@ class Reading:
             self.breaks("it is to be refused")
         else:
             self.tables = after
-        self.keeping = kept_behind(self.file.setup.value, change, body)
+        self.keeping = kept_behind(self.disk.file.setup.value, change, body)
 
     def tool_kept(self, *name):
         if self.keeping is None or self.before != ["keeping", *name]:
             return self.breaks("no such request was being kept")
-        self.carry_out("keep", self.keeping)
+        self.disk.carry_out("keep", self.keeping)
         self.keeping = None
 
     def judge(self, kind):
@@ -524,7 +557,7 @@ class Reading:
         if self.tables.constants[OVERWRITE]:
             self.breaks("the oldest are to leave for it")
         if message:
-            self.breaks_by(self.has_room(message, self.file.used()))
+            self.breaks_by(self.has_room(message, self.disk.file.used()))
 
     def new_or_failed(self, name):
         if self.failed and self.failed[0].name == name:
@@ -569,14 +602,14 @@ class Reading:
         for used in self.used:
             self.breaks_by(self.has_room(message, used))
         self.used = []
-        if int(number) != self.file.next:
-            self.breaks(f"its number is {self.file.next}")
+        if int(number) != self.disk.file.next:
+            self.breaks(f"its number is {self.disk.file.next}")
         self.puts.append(Put(int(number), message))
         self.moving = ("storing", self.puts[-1])
 
     def tool_stored(self, number):
         if self.ends("storing", number):
-            self.carry_out("put", self.size())
+            self.disk.carry_out("put", self.size())
             self.standing.append(self.moving[1])
         self.moving = None
 
@@ -584,26 +617,26 @@ class Reading:
         if not self.is_first(number):
             return
         put = self.standing[0]
-        if cause == "confirmed" and put not in self.taken:
-            self.breaks("the host hasn't taken it")
+        if cause == "confirmed" and put not in (self.journal.listed if self.journal else self.taken):
+            self.breaks("the host hasn't listed it" if self.journal else "the host hasn't taken it")
         if cause == "purged" and not self.is_purge_asked():
             self.breaks("the host hasn't asked for that")
         if cause == "overwritten" and not self.tables.constants[OVERWRITE]:
             self.breaks("the constant forbids that")
         if cause == "overwritten":
-            self.used.append(self.file.used())
+            self.used.append(self.disk.file.used())
         put.why = cause
         self.moving = ("leaving", put)
 
     def tool_gone(self, number):
         if self.ends("leaving", number):
-            self.carry_out(self.work())
+            self.disk.carry_out(self.work())
             why = self.moving[1].why
             self.leave(why, len(self.standing) if why == "purged" else 1)
         self.moving = None
 
     def tool_try(self, number, system):
-        self.carry_out("read")
+        self.disk.carry_out("read")
         if self.is_first(number):
             self.tries[system] = self.standing[0]
 

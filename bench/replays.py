@@ -7,14 +7,17 @@ from reading import Reading
 
 COUNTED = ("rx", "sent S2F24", "sent S6F1", "power", "stored", "try", "confirmed", "purged", "overwritten", "kept",
            "setup", "slip")
+LISTED = ("E power", "H power", "listing", "listed", "journal full")
 
 
 class Replays:
-    """Runs the program on plans and schedules, in a folder of its own."""
+    """Runs the program on plans and schedules, in a folder of its own; with the number of its slots where the host has a
+    journal."""
 
-    def __init__(self, gemline, folder):
+    def __init__(self, gemline, folder, slots=None):
         self.gemline, self.folder, self.done, self.broken = gemline, folder, 0, 0
-        self.counts = dict.fromkeys(COUNTED, 0)
+        self.slots = slots
+        self.counts = dict.fromkeys([*COUNTED, *(LISTED if slots else ())], 0)
         self.front = None, 0                        # the plan and the start of a schedule that ran last, and its lines
         self.calls = None                           # of the disk, before the last loss of the last trace in its event
 
@@ -24,28 +27,32 @@ class Replays:
         for file, text in zip(files, (plan, schedule)):
             with open(file, "w") as out:
                 out.write(text)
-        ran = subprocess.run([self.gemline, "replay", *files], capture_output=True, text=True)
+        words = ["--journal", str(self.slots)] if self.slots else []
+        ran = subprocess.run([self.gemline, "replay", *files, *words], capture_output=True, text=True)
         return ran.stdout.splitlines(), ran.returncode
 
     def read(self, name, plan, schedule, ends=0):
         """Runs one, which ends with this status but for a slip, says what its trace breaks, and answers the trace."""
         trace, status = self.run(plan, schedule)
-        reading, lines = Reading(plan, schedule), schedule.splitlines(keepends=True)
+        reading, lines = Reading(plan, schedule, self.slots), schedule.splitlines(keepends=True)
         begins = [self.length(plan, "".join(lines[:place])) for place in reading.places()]
         broken = reading.read(trace, begins)
-        self.calls = reading.counted
-        wanted = 76 if is_slip(trace[-1:]) else ends
+        self.calls = reading.counted()
+        wanted = 76 if is_slip(trace[-1:]) else reading.status or ends
         if status != wanted:
             broken.append(f"status {status} where {wanted} is wanted")
         for line in trace:
-            words = line.split(" ")[2:]
-            for told in {*words, " ".join(words[:2])}.intersection(COUNTED):
+            words = line.split(" ")[1:]
+            for told in {*words[1:], " ".join(words[1:3]), " ".join(words)}.intersection(self.counts):
                 self.counts[told] += 1
+        if status == 80:
+            self.counts["journal full"] += 1
         self.done += 1
         if broken:
             self.broken += 1
             kept = tempfile.mkdtemp(prefix="gemline-")
-            for file, text in (("plan", plan), ("schedule", schedule), ("trace", "\n".join(trace) + "\n")):
+            for file, text in (("plan", plan), ("schedule", schedule), ("trace", "\n".join(trace) + "\n"),
+                               *([("slots", str(self.slots))] if self.slots else [])):
                 with open(os.path.join(kept, file), "w") as out:
                     out.write(text)
             print(f"{name}, kept in {kept}:", *broken[:3], sep="\n    ", flush=True)

@@ -14,7 +14,8 @@ SIDE = {"E": "#235a8c", "H": "#22786a"}
 COLOURS = {
     **dict.fromkeys(("power", "failed", "slip", "discarded", "denied", "dropped", "refused", "toolong", "full"), RED),
     **dict.fromkeys(("t3", "t4", "duplicate", "unexpected", "foreign", "crowded", "stranger"), LATE),
-    **dict.fromkeys(("spool", "storing", "stored", "leaving", "gone", "try", "setup", "keeping", "kept"), SPOOL),
+    **dict.fromkeys(("spool", "storing", "stored", "leaving", "gone", "try", "setup", "keeping", "kept",
+                     "listing", "listed"), SPOOL),
 }
 BOLD = ("power", "failed", "t3", "t4", "start", "slip", "closed")
 

@@ -28,7 +28,7 @@ class Over(Exception):
 def read_schedule(name, text):
     """The lines of a schedule, each with its number. One that is none is refused by it."""
     forms = ("to [EH] N", "settle", "wait N", "lose [EH] N", "change [EH] N B", "add [EH] B", "tool .+", "host .+",
-             "cut N (old|new|fill B|first N)")
+             "h?cut N (old|new|fill B|first N)")
     form = "|".join(forms).replace("N", "[0-9]{1,10}").replace("B", "[0-9A-Fa-f]{2}")
     events = []
     for number, line in enumerate(text.split("\n"), 1):
@@ -77,7 +77,7 @@ class Replayed(Story):
     def happen(self, event):
         """One line of the schedule."""
         kind, words = event[0], event[-1].split(" ")
-        if kind == "cut":
+        if kind in ("cut", "hcut"):
             self.cut = " ".join(event)
             return
         cut = self.cut
@@ -271,17 +271,18 @@ class Replayed(Story):
             raise Lost
 
     def lose_power(self):
-        """The power goes: the line is emptied both ways, and the tool starts anew."""
-        self.take_line("E", "power")
+        """An end's power goes: the line is emptied both ways, and that end starts anew."""
+        side = "H" if self.cut.startswith("hcut") else "E"
+        self.take_line(side, "power")
         for piece in {char[0]: None for chars in self.way.values() for char in chars}:
             piece.ends(len(self.items) - 1, self.now, "lost")
         for chars in self.way.values():
             chars.clear()
-        self.phase["E"], self.comms["E"], self.cut = IDLE, "DISABLED", None
+        self.phase[side], self.comms[side], self.cut = IDLE, "DISABLED", None
         if self.next == len(self.lines):
             raise Over
-        self.take_line("E", "start")
-        self.pass_time("E", "enable")
+        self.take_line(side, "start")
+        self.pass_time(side, "enable")
 
     # The events.
 

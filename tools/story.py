@@ -12,12 +12,13 @@ FRAME = "a frame"
 HEADED = ("duplicate", "unexpected", "foreign", "toolong", "crowded", "t4")
 # The form of each line behind its moment, as docs/PROFILE.md has it.
 FORMS = (
-    "end", "E start len=N base=N", "E setup N", "H start", "E power", "X closed", "X sent NAME SYS BODY",
+    "end", "X start len=N base=N", "E setup N", "H start", "X power", "X closed", "X sent NAME SYS BODY",
     "X rx NAME SYS BODY", "X tx HEX",
     "X comms (DISABLED|WAIT-CRA|WAIT-DELAY|NOT-COMMUNICATING|COMMUNICATING)",
     "E control (EQUIPMENT-OFF-LINE|ATTEMPT-ON-LINE|HOST-OFF-LINE|LOCAL|REMOTE)", "E spool (ACTIVE|INACTIVE)",
     "E set N", "E event N N", "E alarm N (set|clear)", "E command .*", "E display N BODY", "E refused",
     "E (keeping|kept) NAME", "E storing N NAME", "E stored N", "E leaving N (confirmed|purged|overwritten)", "E gone N",
+    "H listing N NAME", "H listed N",
     "E try N SYS", "X (duplicate|unexpected|foreign|toolong|crowded|t4) HEADER", "X (failed|t3|stranger) NAME SYS",
     "X (dropped|denied|discarded|toolong|full) NAME", "X slip (N|-) FRAME",
 )
@@ -289,7 +290,7 @@ def spool_actives(items):
         words = item.line.words if item.line and item.side == "E" else []
         if since is None and (words == ["ACTIVE"] or item.kind == "start" and words and words[0] != "len=0"):
             since = at
-        elif since is not None and (item.kind == "power" or words == ["INACTIVE"]):
+        elif since is not None and (item.kind == "power" and item.side == "E" or words == ["INACTIVE"]):
             spans.append((since, at))
             since = None
     return spans if since is None else [*spans, (since, None)]
