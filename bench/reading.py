@@ -497,7 +497,8 @@ class Reading:
     def tool_sent(self, *words):
         name, system, body = self.gives("E", words)
         if not name.endswith(" W"):
-            return self.answers(name, system, body)
+            # (an S9F9 is no answer, whosever system bytes it has)
+            return self.answers(name, system, body) if int(name.split("F")[1]) % 2 == 0 else None
         self.unanswered.add(system)
         if system in self.tries:
             wanted = self.tries[system].message
