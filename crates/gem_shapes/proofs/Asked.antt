@@ -15,8 +15,8 @@ use Rattle.gem_shapes.specs.declared.request.Request.{Request}
 use Rattle.gem_shapes.specs.Asked.{asked_by, is_nothing, item_in, request_of, whole_item}
 use Rattle.gem_shapes.specs.Elements.{is_empty_list}
 use Rattle.gem_shapes.specs.Primaries.{primary_with}
-use Rattle.gem_shapes.specs.Requests.{Asks, AsksFor, FitsShape, IsFound, IsNothing, Shape, shape_of}
-use Rattle.gem_shapes.specs.Requests.Shape.{Anything, Nothing, OneItem}
+use Rattle.gem_shapes.specs.Requests.{Asks, AsksFor, FitsShape, IsAskedByItem, IsFound, IsNothing, Shape, behind_first, shape_of}
+use Rattle.gem_shapes.specs.Requests.Shape.{Anything, ListAndBytes, Nothing, OneItem}
 use Rattle.gem_shapes.proofs.Asking.{empty_is, opened_empty}
 
 -- ---- the one item of a body
@@ -75,12 +75,27 @@ nothing_there body bytes is = go (length body == 0) refl (item_in body) refl is
 
 -- ---- the shapes
 
+item_found :
+    (read : Item → Option Request) (body : List ℕ) (r : Request) → IsAskedByItem read body r
+    → option_and_then read (item_in body) ≡ Some r
+item_found read body r fits = ap (option_and_then read) (item_spelled fits.0 body fits.1) ∙ fits.2
+
+item_fits :
+    (read : Item → Option Request) (body : List ℕ) (r : Request) → IsBytes body
+    → option_and_then read (item_in body) ≡ Some r → IsAskedByItem read body r
+item_fits read body r bytes is = go (item_in body) refl is
+  where
+    go : (o : Option Item) → item_in body ≡ o → option_and_then read o ≡ Some r
+        → (i : Item) × Spells i body × (read i ≡ Some r)
+    go None found here = absurd (cc)
+    go (Some i) found here = (i, spelled_item i body bytes found, here)
+
 shape_found : (shape : Shape) (body : List ℕ) (r : Request) → FitsShape shape body r → asked_by shape body ≡ Some r
 shape_found (Anything asked) body r fits = ap (λ q. Some q) (sym fits)
 shape_found (Nothing asked) body r fits =
     ap (λ b. cond b (Some asked) None) (is_nothing_true body fits.0) ∙ ap (λ q. Some q) (sym fits.1)
-shape_found (OneItem read) body r fits =
-    ap (option_and_then read) (item_spelled fits.0 body fits.1) ∙ fits.2
+shape_found (OneItem read) body r fits = item_found read body r fits
+shape_found (ListAndBytes read) body r fits = item_found (λ item. read item (behind_first body)) body r fits
 
 shape_fits :
     (shape : Shape) (body : List ℕ) (r : Request) → IsBytes body → asked_by shape body ≡ Some r
@@ -91,12 +106,8 @@ shape_fits (Nothing asked) body r bytes is = go (is_nothing body) refl is
     go : (b : Bool) → is_nothing body ≡ b → cond b (Some asked) None ≡ Some r → IsNothing body × (r ≡ asked)
     go true nothing here = (nothing_there body bytes nothing, cc)
     go false some here = absurd (cc)
-shape_fits (OneItem read) body r bytes is = go (item_in body) refl is
-  where
-    go : (o : Option Item) → item_in body ≡ o → option_and_then read o ≡ Some r
-        → (i : Item) × Spells i body × (read i ≡ Some r)
-    go None found here = absurd (cc)
-    go (Some i) found here = (i, spelled_item i body bytes found, here)
+shape_fits (OneItem read) body r bytes is = item_fits read body r bytes is
+shape_fits (ListAndBytes read) body r bytes is = item_fits (λ item. read item (behind_first body)) body r bytes is
 
 abbrev asked_of_primary : List ℕ → Option Primary → Option Request
 asked_of_primary body p = option_and_then (λ primary. asked_by (shape_of primary) body) p

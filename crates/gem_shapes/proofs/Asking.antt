@@ -13,18 +13,24 @@ use Rattle.gem_shapes.specs.declared.primary.Primary.{Primary}
 use Rattle.gem_shapes.specs.declared.primary.Primary.TheVariants as primary
 use Rattle.gem_shapes.specs.declared.request.Request.{Request}
 use Rattle.gem_shapes.specs.Elements.{is_empty_list}
-use Rattle.gem_shapes.specs.Requests.{AsksFor, FitsShape, IsAskedByItem, IsFound, IsNothing, Shape, request_in, shape_of}
-use Rattle.gem_shapes.specs.Requests.Shape.{Anything, Nothing, OneItem}
+use Rattle.gem_shapes.specs.Requests.{AsksFor, FitsShape, behind_first, IsAskedByItem, IsFound, IsNothing, Shape, request_in, shape_of}
+use Rattle.gem_shapes.specs.Requests.Shape.{Anything, ListAndBytes, Nothing, OneItem}
 
 -- ---- one thing at most
 
 same_request : (r q : Request) → ◌≡◌ {A = Option Request} (Some r) (Some q) → r ≡ q
 same_request r q e = cc
 
+one_asked :
+    (read : Item → Option Request) (body : List ℕ) (r q : Request) → IsAskedByItem read body r
+    → IsAskedByItem read body q → r ≡ q
+one_asked read body r q a b = same_request r q (sym a.2 ∙ ap read (one_value a.0 b.0 body a.1 b.1) ∙ b.2)
+
 one_fits : (shape : Shape) (body : List ℕ) (r q : Request) → FitsShape shape body r → FitsShape shape body q → r ≡ q
 one_fits (Anything asked) body r q a b = a ∙ sym b
 one_fits (Nothing asked) body r q a b = a.1 ∙ sym b.1
-one_fits (OneItem read) body r q a b = same_request r q (sym a.2 ∙ ap read (one_value a.0 b.0 body a.1 b.1) ∙ b.2)
+one_fits (OneItem read) body r q a b = one_asked read body r q a b
+one_fits (ListAndBytes read) body r q a b = one_asked (λ item. read item (behind_first body)) body r q a b
 
 pub one_request : (primary : Option Primary) (body : List ℕ) (r q : Request) → AsksFor primary body r → AsksFor primary body q → r ≡ q
 one_request None body r q a b = absurd a
@@ -75,30 +81,38 @@ nothing_is i body b s e = (
 -- ---- one item
 
 -- of every other primary what it asks for is asked for by one item
-pub by_item : {E : Type 0} (p : Primary) (body : List ℕ) (r : Result (Option Request) E) → (p ≡ primary.S1F1 → ⊥) → (p ≡ primary.S1F13 → ⊥)
-    → (p ≡ primary.S1F15 → ⊥) → (p ≡ primary.S1F17 → ⊥) → (p ≡ primary.S5F7 → ⊥)
-    → IfOk r (λ found. IsFound (IsAskedByItem (request_in (shape_of p)) body) found) → IfOk r (λ found. IsFound (AsksFor (Some p) body) found)
-by_item primary.S1F1 body r a b c d e h = absurd (a refl)
-by_item primary.S1F3 body r a b c d e h = h
-by_item primary.S1F11 body r a b c d e h = h
-by_item primary.S1F13 body r a b c d e h = absurd (b refl)
-by_item primary.S1F15 body r a b c d e h = absurd (c refl)
-by_item primary.S1F17 body r a b c d e h = absurd (d refl)
-by_item primary.S2F13 body r a b c d e h = h
-by_item primary.S2F15 body r a b c d e h = h
-by_item primary.S2F23 body r a b c d e h = h
-by_item primary.S2F29 body r a b c d e h = h
-by_item primary.S2F33 body r a b c d e h = h
-by_item primary.S2F35 body r a b c d e h = h
-by_item primary.S2F37 body r a b c d e h = h
-by_item primary.S2F39 body r a b c d e h = h
-by_item primary.S2F41 body r a b c d e h = h
-by_item primary.S2F43 body r a b c d e h = h
-by_item primary.S5F3 body r a b c d e h = h
-by_item primary.S5F5 body r a b c d e h = h
-by_item primary.S5F7 body r a b c d e h = absurd (e refl)
-by_item primary.S6F15 body r a b c d e h = h
-by_item primary.S6F19 body r a b c d e h = h
-by_item primary.S6F23 body r a b c d e h = h
-by_item primary.S10F3 body r a b c d e h = h
-by_item primary.S10F5 body r a b c d e h = h
+pub by_item :
+    {E : Type 0} (p : Primary) (body : List ℕ) (r : Result (Option Request) E) → (p ≡ primary.S1F1 → ⊥)
+    → (p ≡ primary.S1F13 → ⊥) → (p ≡ primary.S1F15 → ⊥) → (p ≡ primary.S1F17 → ⊥) → (p ≡ primary.S5F7 → ⊥)
+    → (p ≡ primary.S7F3 → ⊥) → (p ≡ primary.S7F19 → ⊥)
+    → IfOk r (λ found. IsFound (IsAskedByItem (request_in (shape_of p)) body) found)
+    → IfOk r (λ found. IsFound (AsksFor (Some p) body) found)
+by_item primary.S1F1 body r a b c d e f g h = absurd (a refl)
+by_item primary.S1F3 body r a b c d e f g h = h
+by_item primary.S1F11 body r a b c d e f g h = h
+by_item primary.S1F13 body r a b c d e f g h = absurd (b refl)
+by_item primary.S1F15 body r a b c d e f g h = absurd (c refl)
+by_item primary.S1F17 body r a b c d e f g h = absurd (d refl)
+by_item primary.S2F13 body r a b c d e f g h = h
+by_item primary.S2F15 body r a b c d e f g h = h
+by_item primary.S2F23 body r a b c d e f g h = h
+by_item primary.S2F29 body r a b c d e f g h = h
+by_item primary.S2F33 body r a b c d e f g h = h
+by_item primary.S2F35 body r a b c d e f g h = h
+by_item primary.S2F37 body r a b c d e f g h = h
+by_item primary.S2F39 body r a b c d e f g h = h
+by_item primary.S2F41 body r a b c d e f g h = h
+by_item primary.S2F43 body r a b c d e f g h = h
+by_item primary.S5F3 body r a b c d e f g h = h
+by_item primary.S5F5 body r a b c d e f g h = h
+by_item primary.S5F7 body r a b c d e f g h = absurd (e refl)
+by_item primary.S6F15 body r a b c d e f g h = h
+by_item primary.S6F19 body r a b c d e f g h = h
+by_item primary.S6F23 body r a b c d e f g h = h
+by_item primary.S7F1 body r a b c d e f g h = h
+by_item primary.S7F3 body r a b c d e f g h = absurd (f refl)
+by_item primary.S7F5 body r a b c d e f g h = h
+by_item primary.S7F17 body r a b c d e f g h = h
+by_item primary.S7F19 body r a b c d e f g h = absurd (g refl)
+by_item primary.S10F3 body r a b c d e f g h = h
+by_item primary.S10F5 body r a b c d e f g h = h

@@ -43,6 +43,17 @@ two_found (Some (i ∷ j ∷ [])) count bytes first second rest last s both fron
     rw (f.0, g.0) refl
 two_found (Some (i ∷ j ∷ k ∷ items)) count bytes first second rest last s both front behind = absurd (omega (arith, s.0, both))
 
+-- the first of two
+pub first_found :
+    (o : Option (List Item)) (count : ℕ) (bytes : List ℕ) (first : Item) (rest : List ℕ)
+    → AreSpelled o (Some (count, bytes)) → count ≡ 2 → IsFront bytes first rest
+    → Some first ≡ option_map (λ (items : Item × Item). items.0) (option_and_then two_of o)
+first_found None count bytes first rest s both front = absurd s
+first_found (Some []) count bytes first rest s both front = absurd (omega (arith, s.0, both))
+first_found (Some (i ∷ [])) count bytes first rest s both front = absurd (omega (arith, s.0, both))
+first_found (Some (i ∷ j ∷ [])) count bytes first rest s both front = let f = front i (j ∷ []) s.1 in rw f.0 refl
+first_found (Some (i ∷ j ∷ k ∷ items)) count bytes first rest s both front = absurd (omega (arith, s.0, both))
+
 -- ---- L,5
 
 -- behind these items so many more are spelled

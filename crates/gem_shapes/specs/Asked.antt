@@ -8,8 +8,8 @@ use Rattle.secs_items.specs.Reading.{item_at}
 use Rattle.gem_shapes.specs.declared.request.Request.{Request}
 use Rattle.gem_shapes.specs.Elements.{is_empty_list}
 use Rattle.gem_shapes.specs.Primaries.{primary_with}
-use Rattle.gem_shapes.specs.Requests.{Shape, shape_of}
-use Rattle.gem_shapes.specs.Requests.Shape.{Anything, Nothing, OneItem}
+use Rattle.gem_shapes.specs.Requests.{Shape, behind_first, shape_of}
+use Rattle.gem_shapes.specs.Requests.Shape.{Anything, ListAndBytes, Nothing, OneItem}
 
 -- the item that was read, where no bytes are left
 abbrev pub whole_item : Result (Item × List ℕ) ItemFault → Option Item
@@ -29,6 +29,7 @@ abbrev pub asked_by : Shape → List ℕ → Option Request
 asked_by (Anything asked) body = Some asked
 asked_by (Nothing asked) body = if is_nothing body then Some asked else None
 asked_by (OneItem read) body = option_and_then read (item_in body)
+asked_by (ListAndBytes read) body = option_and_then (λ item. read item (behind_first body)) (item_in body)
 
 -- what a message asks for; nothing where the equipment takes no such primary, or where the body isn't of its shape
 abbrev pub request_of : ℕ → ℕ → List ℕ → Option Request

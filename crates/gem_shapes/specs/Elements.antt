@@ -1,5 +1,5 @@
 -- What an item of a request is read as: a value where the item has the form, and otherwise nothing.
-use Rattle.std.specs.Prelude.{ℕ, Bool, false, not, ◌==◌, ◌^◌, List, [], ◌∷◌, length, map, nat_lt, if◌then◌else◌, Option, Some, None}
+use Rattle.std.specs.Prelude.{◌≤◌, ℕ, Bool, false, not, ◌&&◌, ◌==◌, ◌^◌, List, [], ◌∷◌, length, map, nat_le, nat_lt, if◌then◌else◌, Option, Some, None}
 use Rattle.std.specs.Option.{option_and_then, option_map, option_map_or, option_or, option_zip}
 use Rattle.secs_items.specs.declared.item.Item.{Item, out-Item}
 use Rattle.secs_items.specs.declared.item.Item.TheOpen.{Item-F}
@@ -59,6 +59,16 @@ flag item = flag_of (out-Item item)
 -- RCMD, CPNAME and texts: A
 abbrev pub text : Item → Option (List ℕ)
 text item = text_of (out-Item item)
+
+-- PPID: A of 1 to 80 bytes (this profile)
+abbrev pub IsPpid : List ℕ → Type 0
+IsPpid name = (1 ≤ length name) × (length name ≤ 80)
+
+abbrev pub if_ppid : List ℕ → Option (List ℕ)
+if_ppid name = if nat_lt 0 (length name) && nat_le (length name) 80 then Some name else None
+
+abbrev pub ppid : Item → Option (List ℕ)
+ppid item = option_and_then if_ppid (text item)
 
 -- An identifier, as VID and CEID, and DATALENGTH: U1, U2, U4 or U8 of one element that four bytes hold (this profile).
 abbrev pub identifier : Item → Option ℕ

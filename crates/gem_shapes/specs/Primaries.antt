@@ -27,6 +27,11 @@ stream_and_function primary.S5F7 = (5, 7)
 stream_and_function primary.S6F15 = (6, 15)
 stream_and_function primary.S6F19 = (6, 19)
 stream_and_function primary.S6F23 = (6, 23)
+stream_and_function primary.S7F1 = (7, 1)
+stream_and_function primary.S7F3 = (7, 3)
+stream_and_function primary.S7F5 = (7, 5)
+stream_and_function primary.S7F17 = (7, 17)
+stream_and_function primary.S7F19 = (7, 19)
 stream_and_function primary.S10F3 = (10, 3)
 stream_and_function primary.S10F5 = (10, 5)
 
@@ -36,7 +41,8 @@ primaries =
     primary.S1F1 ∷ primary.S1F3 ∷ primary.S1F11 ∷ primary.S1F13 ∷ primary.S1F15 ∷ primary.S1F17 ∷ primary.S2F13
     ∷ primary.S2F15 ∷ primary.S2F23 ∷ primary.S2F29 ∷ primary.S2F33 ∷ primary.S2F35 ∷ primary.S2F37 ∷ primary.S2F39
     ∷ primary.S2F41 ∷ primary.S2F43 ∷ primary.S5F3 ∷ primary.S5F5 ∷ primary.S5F7 ∷ primary.S6F15 ∷ primary.S6F19
-    ∷ primary.S6F23 ∷ primary.S10F3 ∷ primary.S10F5 ∷ []
+    ∷ primary.S6F23 ∷ primary.S7F1 ∷ primary.S7F3 ∷ primary.S7F5 ∷ primary.S7F17 ∷ primary.S7F19 ∷ primary.S10F3
+    ∷ primary.S10F5 ∷ []
 
 abbrev pub has_stream : ℕ → Primary → Bool
 has_stream stream p = (stream_and_function p).0 == stream

@@ -1,8 +1,11 @@
 -- What the body of a primary asks for, by its shape (SEMI E5).
-use Rattle.std.specs.Prelude.{◌≡◌, ℕ, Bool, ◌==◌, nat_le, if◌then◌else◌, List, [], Option, Some, None, ◌⊎◌}
+use Rattle.std.specs.Prelude.{◌≡◌, ℕ, ◌%◌, Bool, ◌==◌, nat_le, if◌then◌else◌, List, [], ◌∷◌, drop, length, Option, Some, None, Result, Ok, Err, ◌⊎◌}
 use Rattle.std.specs.Option.{option_and_then, option_map}
 use Rattle.secs_items.specs.declared.item.Item.{Item}
 use Rattle.secs_items.specs.declared.item.Item.TheVariants as item
+use Rattle.secs_items.specs.declared.item_fault.ItemFault.{ItemFault}
+use Rattle.secs_items.specs.Limits.{max_depth}
+use Rattle.secs_items.specs.Reading.{after_item}
 use Rattle.secs_items.specs.Spelling.{Spells}
 use Rattle.gem_shapes.specs.declared.entries.Definition.{Definition}
 use Rattle.gem_shapes.specs.declared.entries.Linking.{Linking}
@@ -13,7 +16,9 @@ use Rattle.gem_shapes.specs.declared.request.Request.{Request}
 use Rattle.gem_shapes.specs.declared.request.Request.TheVariants as request
 use Rattle.gem_shapes.specs.declared.request.TablesRequest.{TablesRequest}
 use Rattle.gem_shapes.specs.declared.request.TablesRequest.TheVariants as tables_request
-use Rattle.gem_shapes.specs.Elements.{anything, both, code, each, five, flag, identifier, identifier_or_all, identifiers, setting, small_number, text}
+use Rattle.gem_shapes.specs.declared.request.RecipesRequest.{RecipesRequest}
+use Rattle.gem_shapes.specs.declared.request.RecipesRequest.TheVariants as recipes_request
+use Rattle.gem_shapes.specs.Elements.{anything, both, code, each, five, flag, identifier, identifier_or_all, identifiers, ppid, setting, small_number, text}
 use Rattle.gem_shapes.specs.Primaries.{primary_with}
 
 -- an entry of S2F33: L,2 RPTID L,b VID
@@ -50,15 +55,46 @@ trace_request item =
     option_map (λ x. request.Trace x.0 x.1 x.2 x.3 x.4)
     (five identifier text identifier identifier (each identifier) item)
 
--- The shape of a body: anything at all; nothing, as no byte or as an empty list (this profile); or one item.
+-- ---- bytes of items in a body
+
+-- behind the head of an item, of which the first byte says how many others there are (SEMI E5, item header)
+abbrev pub behind_head : List ℕ → List ℕ
+behind_head [] = []
+behind_head (format ∷ bytes) = drop (format % 4) bytes
+
+-- what is left behind something that was read; none where that isn't there
+abbrev pub left_behind : Result (List ℕ) ItemFault → List ℕ
+left_behind (Ok rest) = rest
+left_behind (Err e) = []
+
+abbrev pub behind_item : List ℕ → List ℕ
+behind_item bytes = left_behind (after_item (length bytes) max_depth bytes)
+
+-- the bytes behind the first item of a list
+abbrev pub behind_first : List ℕ → List ℕ
+behind_first bytes = behind_item (behind_head bytes)
+
+-- S7F3: L,2 PPID PPBODY, of which the body is the bytes behind the name (SEMI E5, S7F3; that these are kept as they
+-- came is this profile's)
+abbrev pub sent : Item → List ℕ → Option Request
+sent item behind =
+    option_map (λ x. request.OfRecipes (recipes_request.Send x.0 behind)) (both ppid anything item)
+
+-- The shape of a body: anything at all; nothing, as no byte or as an empty list (this profile); one item; or one list,
+-- with the bytes behind its first item.
 pub data Shape : Type 0 where
   Anything : (asked : Request) → Shape
   Nothing : (asked : Request) → Shape
   OneItem : (read : Item → Option Request) → Shape
+  ListAndBytes : (read : Item → List ℕ → Option Request) → Shape
 
 -- one item, of which the request of the tables is made
 abbrev pub item_shape : {T : Type 0} → (T → TablesRequest) → (Item → Option T) → Shape
 item_shape make read = OneItem (λ item. option_map (λ x. request.OfTables (make x)) (read item))
+
+-- so of the recipes
+abbrev pub recipes_shape : {T : Type 0} → (T → RecipesRequest) → (Item → Option T) → Shape
+recipes_shape make read = OneItem (λ item. option_map (λ x. request.OfRecipes (make x)) (read item))
 
 -- what one item is read as, where the shape is one item
 abbrev pub request_in : Shape → Item → Option Request
@@ -88,6 +124,11 @@ shape_of primary.S5F7 = Nothing (request.OfTables tables_request.EnabledAlarms)
 shape_of primary.S6F15 = item_shape tables_request.EventReport identifier
 shape_of primary.S6F19 = item_shape tables_request.Report identifier
 shape_of primary.S6F23 = OneItem (λ item. option_and_then spool_request (small_number item))
+shape_of primary.S7F1 = recipes_shape (λ x. recipes_request.Inquire x.0 x.1) (both ppid identifier)
+shape_of primary.S7F3 = ListAndBytes sent
+shape_of primary.S7F5 = recipes_shape recipes_request.Ask ppid
+shape_of primary.S7F17 = recipes_shape recipes_request.Delete (each ppid)
+shape_of primary.S7F19 = Nothing (request.OfRecipes recipes_request.List)
 shape_of primary.S10F3 = item_shape (λ x. tables_request.Display x.0 x.1) (both code text)
 shape_of primary.S10F5 = item_shape (λ x. tables_request.DisplayLines x.0 x.1) (both code (each text))
 
@@ -104,6 +145,7 @@ abbrev pub FitsShape : Shape → List ℕ → Request → Type 0
 FitsShape (Anything asked) body request = request ≡ asked
 FitsShape (Nothing asked) body request = IsNothing body × (request ≡ asked)
 FitsShape (OneItem read) body request = IsAskedByItem read body request
+FitsShape (ListAndBytes read) body request = IsAskedByItem (λ item. read item (behind_first body)) body request
 
 -- a primary's body asks for this; one that isn't known asks for nothing
 abbrev pub AsksFor : Option Primary → List ℕ → Request → Type 0

@@ -1,12 +1,12 @@
 //! Forms of items: what an item is read as, and which items are of the form.
 
-ghost use Rattle.std.specs.Prelude.{◌≡◌, ℕ, ◌^◌, List, Option, map, IfOk};
-ghost use Rattle.secs_items.specs.declared.item.Item.{Item, out-Item};
-ghost use Rattle.gem_shapes.specs.Elements.{anything, below, both, all_of, code, each, five, flag, identifier, identifier_or_all, identifiers, one_or_all, setting, small_number, text};
+ghost use Rattle.std.specs.Prelude.{◌≡◌, ℕ, ◌^◌, Option, map, IfOk};
+ghost use Rattle.secs_items.specs.declared.item.Item.{Item};
+ghost use Rattle.gem_shapes.specs.Elements.{anything, below, both, all_of, code, each, five, flag, identifier, identifier_or_all, identifiers, one_or_all, ppid, setting, small_number, text};
 ghost use Rattle.gem_shapes.specs.Requests.{definition, linking, rule_entry};
 
 use crate::entries::{Definition, Linking, RuleEntry};
-use crate::part::{Part, Text, five_of, front_of, two_of};
+use crate::part::{Part, RecipeName, Text, five_of, front_of, two_of};
 use gl_base::{NoMemory, Row};
 use secs_items::Item;
 use std::alloc::Global;
@@ -64,6 +64,9 @@ pub(crate) struct Flag;
 
 /// RCMD, CPNAME and texts.
 pub(crate) struct Words;
+
+/// PPID.
+pub(crate) struct Ppid;
 
 impl<'a, F: Form<'a>> Form<'a> for Each<F> {
     type Value = Row<F::Value>;
@@ -206,6 +209,16 @@ impl<'a> Form<'a> for Words {
 
     fn read(_alloc: Global, part: &Part<'a>) -> Result<Option<Text<'a>>, NoMemory> {
         Ok(part.text())
+    }
+}
+
+impl<'a> Form<'a> for Ppid {
+    type Value = RecipeName<'a>;
+
+    ghost value_of = { ppid };
+
+    fn read(_alloc: Global, part: &Part<'a>) -> Result<Option<RecipeName<'a>>, NoMemory> {
+        Ok(part.recipe_name())
     }
 }
 

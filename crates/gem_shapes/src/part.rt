@@ -6,8 +6,9 @@ ghost use Rattle.secs_items.specs.declared.item.Item.{Item, out-Item};
 ghost use Rattle.secs_items.specs.Checking.{check_of};
 ghost use Rattle.secs_items.specs.Spelling.{Spells, SpellsEach};
 ghost use Rattle.secs_items.specs.Views.{number_of};
-ghost use Rattle.gem_shapes.specs.Elements.{byte_of, five_items, flag_of, is_empty_list, list_of, numbers_of, one_flag_of, one_of, text_of, two};
+ghost use Rattle.gem_shapes.specs.Elements.{IsPpid, byte_of, five_items, flag_of, if_ppid, is_empty_list, list_of, numbers_of, one_flag_of, one_of, ppid, text_of, two};
 ghost use Rattle.gem_shapes.specs.Parts.{AreSpelled, Begins};
+ghost use Rattle.gem_shapes.specs.Requests.{behind_head, behind_item};
 
 use gl_base::NoMemory;
 use secs_items::{BodyCheck, Item, ItemView, Kind, Verdict, front, view};
@@ -29,6 +30,54 @@ impl<'a> Model for Text<'a> {
 }
 
 impl<'a> Text<'a> {
+    pub fn bytes(&self) -> &'a [u8]
+        ensures { result.now ≡ self.now }
+    {
+        self.bytes
+    }
+}
+
+/// The name of a recipe, PPID, in the bytes of its message: 1 to 80 bytes.
+#[derive(Drop)]
+pub struct RecipeName<'a> {
+    bytes: &'a [u8],
+}
+
+impl<'a> Model for RecipeName<'a> {
+    ghost use Rattle.std.specs.Prelude.{ℕ, List};
+    ghost use Rattle.gem_shapes.specs.Elements.{IsPpid};
+
+    ghost Value = { List ℕ };
+
+    ghost view = { λ name. name.bytes.now };
+
+    ghost invariant = { λ name. IsPpid name.bytes.now };
+}
+
+impl<'a> RecipeName<'a> {
+    pub fn bytes(&self) -> &'a [u8]
+        ensures bytes { result.now ≡ self.now }
+        ensures is { IsPpid result.now }
+    {
+        self.bytes
+    }
+}
+
+/// An item as the bytes that spell it in its message.
+#[derive(Drop)]
+pub struct Spelled<'a> {
+    pub(crate) bytes: &'a [u8],
+}
+
+impl<'a> Model for Spelled<'a> {
+    ghost use Rattle.std.specs.Prelude.{ℕ, List};
+
+    ghost Value = { List ℕ };
+
+    ghost view = { λ spelled. spelled.bytes.now };
+}
+
+impl<'a> Spelled<'a> {
     pub fn bytes(&self) -> &'a [u8]
         ensures { result.now ≡ self.now }
     {
@@ -94,6 +143,7 @@ impl<'a> Model for Part<'a> {
 pub(crate) fn checked_part<'a>(bytes: &'a [u8], check: &BodyCheck) -> Option<Part<'a>>
     requires { check.now ≡ check_of bytes.now }
     ensures found { IfSome result (λ part. Spells part.item bytes.now) }
+    ensures content { IfSome result (λ part. part.content ≡ behind_head bytes.now) }
     ensures only { (item : Item) → Spells item bytes.now → IsSomeAnd result (λ part. part.item ≡ item) }
 {
     match check.verdict() {
@@ -107,8 +157,9 @@ pub(crate) fn checked_part<'a>(bytes: &'a [u8], check: &BodyCheck) -> Option<Par
 /// The part at the front of some that stand one after another, and the bytes after it.
 pub(crate) fn front_of(bytes: &[u8]) -> (Part<'_>, &[u8])
     requires { Begins bytes.now }
-    ensures { (item : Item) (items : List Item) → SpellsEach Spells (item ∷ items) bytes.now
+    ensures items { (item : Item) (items : List Item) → SpellsEach Spells (item ∷ items) bytes.now
         → (result.0.item ≡ item) × SpellsEach Spells items result.1.now }
+    ensures rest { result.1.now ≡ behind_item bytes.now }
 {
     let Ok((view, rest)) = front(bytes) else {
         unreachable!()
@@ -127,6 +178,18 @@ pub(crate) fn two_of<'a>(part: &Part<'a>) -> Option<(Part<'a>, Part<'a>)>
     let (first, rest) = front_of(bytes);
     let (second, _) = front_of(rest);
     Some((first, second))
+}
+
+/// The first item of L,2, and the bytes of the second one.
+pub(crate) fn first_and_bytes<'a>(part: &Part<'a>) -> Option<(Part<'a>, &'a [u8])>
+    ensures first { option_map (λ parts. parts.0.item) result ≡ option_map (λ items. items.0) (two part.now.item) }
+    ensures bytes { IfSome result (λ parts. parts.1.now ≡ behind_item part.now.content) }
+{
+    let (count, bytes) = part.list()?;
+    if count != 2 {
+        return None;
+    }
+    Some(front_of(bytes))
 }
 
 /// The five items of L,5.
@@ -168,6 +231,16 @@ fn one_flag_of(bytes: &[u8]) -> Option<bool>
     }
 }
 
+/// The name of a recipe that the bytes are.
+fn recipe_name(bytes: &[u8]) -> Option<RecipeName<'_>>
+    ensures { result ≡ if_ppid bytes.now }
+{
+    if bytes.is_empty() || bytes.len() > 80 {
+        return None;
+    }
+    Some(RecipeName { bytes })
+}
+
 impl<'a> Part<'a> {
     pub(crate) fn number(&self) -> Option<u64>
         ensures { result ≡ number_of (out-Item self.now.item) }
@@ -201,7 +274,8 @@ impl<'a> Part<'a> {
 
     /// How many items a list has, and the bytes in which they stand one after another.
     pub(crate) fn list(&self) -> Option<(usize, &'a [u8])>
-        ensures { AreSpelled (list_of (out-Item self.now.item)) (option_map (λ x. (x.0, x.1.now)) result) }
+        ensures spelled { AreSpelled (list_of (out-Item self.now.item)) (option_map (λ x. (x.0, x.1.now)) result) }
+        ensures content { IfSome result (λ x. x.1.now ≡ self.now.content) }
     {
         match self.view.kind() {
             Kind::L => Some((self.view.len(), self.view.bytes())),
@@ -218,6 +292,13 @@ impl<'a> Part<'a> {
             }),
             _ => None,
         }
+    }
+
+    /// The name of a recipe.
+    pub(crate) fn recipe_name(&self) -> Option<RecipeName<'a>>
+        ensures { result ≡ ppid self.now.item }
+    {
+        recipe_name(self.text()?.bytes())
     }
 
     /// The one element of B.

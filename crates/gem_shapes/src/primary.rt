@@ -28,6 +28,11 @@ pub enum Primary {
     S6F15,
     S6F19,
     S6F23,
+    S7F1,
+    S7F3,
+    S7F5,
+    S7F17,
+    S7F19,
     S10F3,
     S10F5,
 }
@@ -42,6 +47,7 @@ impl Primary {
             2 => Primary::in_stream_2(function),
             5 => Primary::in_stream_5(function),
             6 => Primary::in_stream_6(function),
+            7 => Primary::in_stream_7(function),
             10 => Primary::in_stream_10(function),
             _ => None,
         }
@@ -101,6 +107,19 @@ impl Primary {
         })
     }
 
+    fn in_stream_7(function: u8) -> Option<Primary>
+        ensures { result ≡ primary_with 7 function }
+    {
+        Some(match function {
+            1 => Primary::S7F1,
+            3 => Primary::S7F3,
+            5 => Primary::S7F5,
+            17 => Primary::S7F17,
+            19 => Primary::S7F19,
+            _ => return None,
+        })
+    }
+
     fn in_stream_10(function: u8) -> Option<Primary>
         ensures { result ≡ primary_with 10 function }
     {
@@ -116,7 +135,7 @@ impl Primary {
 pub fn is_known_stream(stream: u8) -> bool
     ensures { result ≡ is_known_stream stream }
 {
-    matches!(stream, 1 | 2 | 5 | 6 | 10)
+    matches!(stream, 1 | 2 | 5 | 6 | 7 | 10)
 }
 
 /// Whether the equipment takes the primary of this stream and function.

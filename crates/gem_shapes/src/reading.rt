@@ -4,17 +4,17 @@ ghost use Rattle.std.specs.Prelude.{◌≡◌, ◌↔◌, Some, IfOk, IsTrue};
 ghost use Rattle.secs_items.specs.Checking.{check_of};
 ghost use Rattle.gem_shapes.specs.declared.primary.Primary.TheVariants as primary;
 ghost use Rattle.gem_shapes.specs.Asked.{request_of};
-ghost use Rattle.gem_shapes.specs.Requests.{Asks, AsksFor, FitsShape, IsAskedByItem, IsFound, IsNothing, request_in, shape_of};
+ghost use Rattle.gem_shapes.specs.Requests.{Asks, AsksFor, FitsShape, IsAskedByItem, IsFound, IsNothing, behind_item, request_in, sent, shape_of};
 ghost use Rattle.gem_shapes.specs.Requests.Shape.{Nothing};
 
 use crate::entries::{Definition, Linking, RuleEntry};
 use crate::form::{
-    Anything, Both, Code, Each, Five, Flag, Form, Identifier, IdentifierOrAll, Identifiers,
+    Anything, Both, Code, Each, Five, Flag, Form, Identifier, IdentifierOrAll, Identifiers, Ppid,
     Setting, SmallNumber, Words,
 };
-use crate::part::{Part, checked_part, two_of};
+use crate::part::{Part, Spelled, checked_part, first_and_bytes, two_of};
 use crate::primary::Primary;
-use crate::request::{Request, TablesRequest};
+use crate::request::{RecipesRequest, Request, TablesRequest};
 use gl_base::NoMemory;
 use secs_items::BodyCheck;
 use std::alloc::Global;
@@ -86,6 +86,12 @@ impl Primary {
                 check,
                 Request::OfTables(TablesRequest::EnabledAlarms),
             )),
+            Primary::S7F3 => Ok(sent(body, check)),
+            Primary::S7F19 => Ok(asked_by_nothing(
+                body,
+                check,
+                Request::OfRecipes(RecipesRequest::List),
+            )),
             _ => self.request_of_item(alloc, body, check),
         }
     }
@@ -128,6 +134,9 @@ impl Primary {
             Primary::S6F15 => event_report(alloc, &part),
             Primary::S6F19 => report(alloc, &part),
             Primary::S6F23 => spool(alloc, &part),
+            Primary::S7F1 => inquire(alloc, &part),
+            Primary::S7F5 => Ok(ask(&part)),
+            Primary::S7F17 => delete(alloc, &part),
             Primary::S10F3 => display(alloc, &part),
             Primary::S10F5 => display_lines(alloc, &part),
             _ => Ok(None),
@@ -266,6 +275,57 @@ fn report<'a>(alloc: Global, part: &Part<'a>) -> Result<Option<Request<'a>>, NoM
 {
     match Identifier::read(alloc, part)? {
         Some(rptid) => Ok(Some(Request::OfTables(TablesRequest::Report(rptid)))),
+        None => Ok(None),
+    }
+}
+
+fn inquire<'a>(alloc: Global, part: &Part<'a>) -> Result<Option<Request<'a>>, NoMemory>
+    ensures { IfOk result (λ found. found ≡ request_in (shape_of primary.S7F1) part.now.item) }
+{
+    match Both::<Ppid, Identifier>::read(alloc, part)? {
+        Some((name, length)) => Ok(Some(Request::OfRecipes(RecipesRequest::Inquire {
+            name,
+            length,
+        }))),
+        None => Ok(None),
+    }
+}
+
+/// The recipe of a body that is to be one.
+fn sent<'a>(body: &'a [u8], check: &BodyCheck) -> Option<Request<'a>>
+    requires { check.now ≡ check_of body.now }
+    ensures { IsFound (FitsShape (shape_of primary.S7F3) body.now) result }
+{
+    match checked_part(body, check) {
+        Some(part) => recipe(&part),
+        None => None,
+    }
+}
+
+/// The recipe that the item is. Its own body are the bytes behind the name, as they came.
+fn recipe<'a>(part: &Part<'a>) -> Option<Request<'a>>
+    ensures { result ≡ sent part.now.item (behind_item part.now.content) }
+{
+    let (first, bytes) = first_and_bytes(part)?;
+    let name = first.recipe_name()?;
+    Some(Request::OfRecipes(RecipesRequest::Send {
+        name,
+        body: Spelled { bytes },
+    }))
+}
+
+fn ask<'a>(part: &Part<'a>) -> Option<Request<'a>>
+    ensures { result ≡ request_in (shape_of primary.S7F5) part.now.item }
+{
+    let name = part.recipe_name()?;
+    Some(Request::OfRecipes(RecipesRequest::Ask(name)))
+}
+
+fn delete<'a>(alloc: Global, part: &Part<'a>) -> Result<Option<Request<'a>>, NoMemory>
+    ensures { IfOk result (λ found. found ≡ request_in (shape_of primary.S7F17) part.now.item) }
+{
+    match Each::<Ppid>::read(alloc, part)? {
+        Some(names) => Ok(Some(Request::OfRecipes(RecipesRequest::Delete(names)))),
         None => Ok(None),
     }
 }

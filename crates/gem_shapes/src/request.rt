@@ -1,7 +1,8 @@
-//! What a message of the host asks the equipment for: something of its tables, or what it carries out itself.
+//! What a message of the host asks the equipment for: something of its tables or its recipes, or what it carries out
+//! itself.
 
 use crate::entries::{Definition, Linking, RuleEntry};
-use crate::part::{Params, Text};
+use crate::part::{Params, RecipeName, Spelled, Text};
 use gl_base::Row;
 
 /// What a message of the host asks the equipment for. The tables answer most of it; what changes the states, sends or
@@ -10,6 +11,8 @@ use gl_base::Row;
 pub enum Request<'a> {
     /// What the tables answer.
     OfTables(TablesRequest<'a>),
+    /// What the recipes answer.
+    OfRecipes(RecipesRequest<'a>),
     /// S1F13.
     Establish,
     /// S1F15.
@@ -72,4 +75,25 @@ pub enum TablesRequest<'a> {
     Display { tid: u8, text: Text<'a> },
     /// S10F5.
     DisplayLines { tid: u8, texts: Row<Text<'a>> },
+}
+
+/// What a message of the host asks the recipes of the equipment for.
+#[derive(Drop)]
+pub enum RecipesRequest<'a> {
+    /// S7F1: a recipe of this name and length is to come.
+    Inquire {
+        name: RecipeName<'a>,
+        length: u32,
+    },
+    /// S7F3: a recipe, with the bytes of its body as they came.
+    Send {
+        name: RecipeName<'a>,
+        body: Spelled<'a>,
+    },
+    /// S7F5: the recipe of this name.
+    Ask(RecipeName<'a>),
+    /// S7F17: these are deleted, or all where there is none.
+    Delete(Row<RecipeName<'a>>),
+    /// S7F19: the names of all.
+    List,
 }
