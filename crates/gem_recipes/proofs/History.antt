@@ -1,9 +1,10 @@
 -- What a change makes of the recipe of a name, and deletions one by one.
-use Rattle.std.proofs.Common.{◌≡◌, refl, sym, ◌∙◌, ap, Bool, true, false, cond, ◌||◌, ℕ, List, [], ◌∷◌, bytes_eq, fold, not, Option, None, Some, Equal, is_eq}
+use Rattle.std.proofs.Common.{◌≡◌, refl, sym, ◌∙◌, ap, Bool, true, false, cond, ◌||◌, ℕ, List, [], ◌∷◌, bytes_eq, not, Option, None, Some, Equal, is_eq}
 use Rattle.std.specs.Cmp.Lexicographic.{nat_list_cmp_total, texts_ties}
 use Rattle.std.specs.FinMap.{empty, get, get-empty, get-insert, get-remove, get-retain_keys, nat_cmp-IsAntisymmetric, same_map, slice_cmp-IsAntisymmetric}
 use Rattle.std.specs.List.{list_any}
 use Rattle.std.specs.Option.{option_map, unwrap_or}
+use Rattle.gem_recipes.specs.Asking.{without_each}
 use Rattle.gem_recipes.specs.History.{RecipeChange, after_change, body_at, body_from, is_meant, recipes_after}
 use Rattle.gem_recipes.specs.History.RecipeChange.{Deletes, Stores}
 use Rattle.gem_recipes.specs.Recipes.{Recipe, Recipes, body_of, by_bytes, next_number, without}
@@ -13,7 +14,7 @@ pub same_name : (a b : List ℕ) → by_bytes a b ≡ Equal → a ≡ b
 same_name = slice_cmp-IsAntisymmetric nat_cmp-IsAntisymmetric
 
 -- to tie is to have the same bytes
-tie : (a b : List ℕ) → is_eq (by_bytes a b) ≡ bytes_eq a b
+pub tie : (a b : List ℕ) → is_eq (by_bytes a b) ≡ bytes_eq a b
 tie a b = sym (texts_ties a b)
 
 -- ---- one change
@@ -62,9 +63,6 @@ looked_back found (change ∷ past) name =
 
 -- ---- deletions
 
-abbrev one_by_one : Recipes → List (List ℕ) → Recipes
-one_by_one recipes names = fold (λ left one. without one left) recipes names
-
 either : (a b : Bool) (o : Option Recipe) → cond a None (cond b None o) ≡ cond (b || a) None o
 either true true o = refl
 either true false o = refl
@@ -76,9 +74,9 @@ turned true o = refl
 turned false o = refl
 
 -- what is left of a name behind deletions one by one
-left_of :
+pub left_of :
     (recipes : Recipes) (names : List (List ℕ)) (name : List ℕ)
-    → get (one_by_one recipes names) name ≡ cond (list_any (bytes_eq name) names) None (get recipes name)
+    → get (without_each names recipes) name ≡ cond (list_any (bytes_eq name) names) None (get recipes name)
 left_of recipes [] name = refl
 left_of recipes (one ∷ more) name =
     left_of (without one recipes) more name
@@ -88,7 +86,7 @@ left_of recipes (one ∷ more) name =
 
 pub named_in_turn :
     (recipes : Recipes) (name : List ℕ) (more : List (List ℕ))
-    → after_change (Deletes (name ∷ more)) recipes ≡ one_by_one recipes (name ∷ more)
+    → after_change (Deletes (name ∷ more)) recipes ≡ without_each (name ∷ more) recipes
 named_in_turn recipes name more =
     same_map nat_list_cmp_total same_name _ _ (λ one.
     kept_of recipes (name ∷ more) one

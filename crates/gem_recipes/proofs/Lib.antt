@@ -1,4 +1,7 @@
 mod Empty
+mod Exchanges
 mod History
+mod Names
 mod Numbers
+mod Serving
 mod Worked

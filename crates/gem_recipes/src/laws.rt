@@ -1,6 +1,6 @@
 //! What holds of the recipes after every history of changes, and exchanges that can be followed by hand.
 
-ghost use Rattle.gem_recipes.specs.Laws.{DeletesInTurn, NumbersRise, RecipesAreLookedBackFor};
+ghost use Rattle.gem_recipes.specs.Laws.{AnswersAreExchanges, DeletesInTurn, NumbersRise, RecipesAreLookedBackFor};
 ghost use Rattle.gem_recipes.specs.Worked.{WorkedExchanges};
 
 /// The body of a name after a history of changes is the one of the newest change that says something of it.
@@ -16,6 +16,12 @@ pub fn numbers_rise()
 /// A deletion of several recipes is one of each in turn.
 pub fn deletes_in_turn()
     ensures { DeletesInTurn }
+{}
+
+/// What is answered and left of the recipes is what an exchange of that request has and leaves: a deletion one by one is
+/// the deletion of all that it means.
+pub fn answers_are_exchanges()
+    ensures { AnswersAreExchanges }
 {}
 
 /// Exchanges that are answered so, and some that aren't.
