@@ -2,20 +2,22 @@
 use Rattle.std.proofs.Common.{◌≡◌, refl, sym, ◌∙◌, ap, Bool, true, false, cond, ◌&&◌, ◌||◌, ◌==◌, ℕ, List, [], ◌∷◌, map, length, Option, Some, None}
 use Rattle.std.proofs.lemmas.Bool.{and_parts, eqb-true}
 use Rattle.std.proofs.lemmas.Cmp.{nat_eq_equiv}
-use Rattle.std.specs.List.{find}
 use Rattle.std.specs.Option.{option_and_then, option_map}
 use Rattle.secs_items.specs.declared.item.Item.{Item}
 use Rattle.gem_shapes.specs.declared.primary.Primary.{Primary}
 use Rattle.gem_shapes.specs.declared.primary.Primary.TheVariants as primary
 use Rattle.gem_shapes.specs.declared.request.Request.{Request}
 use Rattle.gem_shapes.specs.declared.request.Request.TheVariants as request
+use Rattle.gem_shapes.specs.declared.request.RecipesRequest.{RecipesRequest}
+use Rattle.gem_shapes.specs.declared.request.RecipesRequest.TheVariants as recipes_request
 use Rattle.gem_shapes.specs.declared.request.TablesRequest.{TablesRequest}
 use Rattle.gem_shapes.specs.declared.request.TablesRequest.TheVariants as tables_request
 use Rattle.gem_shapes.specs.Asked.{asked_by, is_nothing, item_in}
-use Rattle.gem_shapes.specs.Elements.{both, code, each, five, flag, identifier, identifier_or_all, identifiers, setting, small_number, text}
-use Rattle.gem_shapes.specs.Primaries.{has_function, primaries, primary_with, stream_and_function}
-use Rattle.gem_shapes.specs.Requests.{definition, enables, item_shape, linking, parameters, rule_entry, shape_of, spool_request, trace_request}
+use Rattle.gem_shapes.specs.Elements.{anything, both, code, each, five, flag, identifier, identifier_or_all, identifiers, ppid, setting, small_number, text}
+use Rattle.gem_shapes.specs.Primaries.{primary_with, stream_and_function}
+use Rattle.gem_shapes.specs.Requests.{behind_first, definition, enables, item_shape, linking, parameters, recipes_shape, rule_entry, shape_of, spool_request, trace_request}
 use Rattle.gem_shapes.specs.Requests.Shape.{Nothing}
+use Rattle.gem_shapes.proofs.Primaries.{found_has}
 use Rattle.setup_store.specs.declared.change.Change.{Change}
 use Rattle.setup_store.specs.declared.change.Change.TheVariants as change
 use Rattle.setup_store.specs.Entries.{Entry}
@@ -69,15 +71,23 @@ nothing asked none body d place is = go (is_nothing body) is
     go true here = no_change d place (sym none ∙ here)
     go false here = no_change d place here
 
-found_passes :
-    {A : Type 0} (test : A → Bool) (xs : List A) (x : A) → find test xs ≡ Some x → test x ≡ true
-found_passes test [] x found = absurd (cc)
-found_passes test (y ∷ xs) x found = go (found_passes test xs x) (test y) refl found
+-- what is asked of the recipes changes nothing of the tables
+recipes_apart :
+    {A : Type 0} (make : A → RecipesRequest) (read : Item → Option A) (body : List ℕ) (d : Change) (place : ℕ × ℕ)
+    → option_and_then change_in (asked_by (recipes_shape make read) body) ≡ Some d → place ≡ place_of d
+recipes_apart {A} make read body d place is = go (item_in body) is
   where
-    go : (find test xs ≡ Some x → test x ≡ true) → (b : Bool) → test y ≡ b
-        → cond b (Some y) (find test xs) ≡ Some x → test x ≡ true
-    go next true passes found = let same : y ≡ x = cc in ap test (sym same) ∙ passes
-    go next false fails found = next found
+    of_read : (o : Option A)
+        → option_and_then change_in (option_map (λ x. request.OfRecipes (make x)) o) ≡ Some d → place ≡ place_of d
+    of_read None here = no_change d place here
+    of_read (Some x) here = no_change d place here
+
+    go : (o : Option Item)
+        → option_and_then change_in
+        (option_and_then (λ item. option_map (λ x. request.OfRecipes (make x)) (read item)) o) ≡ Some d
+        → place ≡ place_of d
+    go None here = no_change d place here
+    go (Some item) here = of_read (read item) here
 
 of_primary :
     (p : Primary) (body : List ℕ) (d : Change)
@@ -158,6 +168,13 @@ of_primary primary.S6F23 body d is = spooled (item_in body) is
         → (6, 23) ≡ place_of d
     spooled None here = absurd (cc)
     spooled (Some item) here = of_rsdc (small_number item) here
+of_primary primary.S7F1 body d is =
+    recipes_apart (λ x. recipes_request.Inquire x.0 x.1) (both ppid identifier) body d (7, 1) is
+of_primary primary.S7F3 body d is =
+    recipes_apart (λ x. recipes_request.Send x.0 (behind_first body)) (both ppid anything) body d (7, 3) is
+of_primary primary.S7F5 body d is = recipes_apart recipes_request.Ask ppid body d (7, 5) is
+of_primary primary.S7F17 body d is = recipes_apart recipes_request.Delete (each ppid) body d (7, 17) is
+of_primary primary.S7F19 body d is = nothing (request.OfRecipes recipes_request.List) refl body d (7, 19) is
 of_primary primary.S10F3 body d is =
     item_made (λ x. tables_request.Display x.0 x.1) (both code text) body d (10, 3)
     (λ t here. no_change d (10, 3) here) is
@@ -177,12 +194,8 @@ placed x d is = go (primary_with x.stream x.function) refl is
     go None found here = absurd (cc)
     go (Some p) found here =
         let place = of_primary p x.body d here in
-        let passes = found_passes (has_function x.stream x.function) primaries p found in
-        let both =
-        and_parts ((stream_and_function p).0 == x.stream) ((stream_and_function p).1 == x.function) passes in (
-          sym (eqb-true (stream_and_function p).0 x.stream both.0) ∙ ap (λ (q : ℕ × ℕ). q.0) place,
-          sym (eqb-true (stream_and_function p).1 x.function both.1) ∙ ap (λ (q : ℕ × ℕ). q.1) place,
-        )
+        let has = found_has x.stream x.function p found in
+        (has.0 ∙ ap (λ (q : ℕ × ℕ). q.0) place, has.1 ∙ ap (λ (q : ℕ × ℕ). q.1) place)
 
 equal : (n : ℕ) → (n == n) ≡ true
 equal n = nat_eq_equiv.refl n

@@ -161,6 +161,7 @@ module _ (vars : VarsAreLookedBackFor) (reports : ReportsGoByWhatStands) (alarms
       → tables_by plan (asked_counts plan r e) ≡ asked_after r (tables_by plan e)
   asked_same e None = refl
   asked_same e (Some (request.OfTables r)) = request_same e r
+  asked_same e (Some (request.OfRecipes r)) = refl
   asked_same e (Some request.Establish) = refl
   asked_same e (Some request.GoOffline) = refl
   asked_same e (Some request.GoOnline) = refl

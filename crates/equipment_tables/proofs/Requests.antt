@@ -8,11 +8,13 @@ use Rattle.gem_shapes.specs.declared.primary.Primary.{Primary}
 use Rattle.gem_shapes.specs.declared.primary.Primary.TheVariants as primary
 use Rattle.gem_shapes.specs.declared.request.Request.{Request}
 use Rattle.gem_shapes.specs.declared.request.Request.TheVariants as request
+use Rattle.gem_shapes.specs.declared.request.RecipesRequest.{RecipesRequest}
+use Rattle.gem_shapes.specs.declared.request.RecipesRequest.TheVariants as recipes_request
 use Rattle.gem_shapes.specs.declared.request.TablesRequest.{TablesRequest}
 use Rattle.gem_shapes.specs.declared.request.TablesRequest.TheVariants as tables_request
-use Rattle.gem_shapes.specs.Elements.{both, code, each, five, flag, identifier, identifier_or_all, identifiers, setting, small_number, text, two}
+use Rattle.gem_shapes.specs.Elements.{anything, both, code, each, five, flag, identifier, identifier_or_all, identifiers, ppid, setting, small_number, text, two}
 use Rattle.gem_shapes.specs.Primaries.{primary_with}
-use Rattle.gem_shapes.specs.Requests.{Asks, AsksFor, IsFound, definition, enables, linking, parameters, rule_entry, spool_request}
+use Rattle.gem_shapes.specs.Requests.{Asks, AsksFor, IsFound, behind_first, definition, enables, linking, parameters, rule_entry, spool_request}
 use Rattle.equipment_tables.specs.Requests.{IsAsked, IsAskedOfTables}
 
 made :
@@ -20,6 +22,12 @@ made :
     → option_map (λ t. request.OfTables (make t)) o ≡ Some r → IsAsked r
 made make each None r is = absurd (cc)
 made make each (Some t) r is = let same : request.OfTables (make t) ≡ r = cc in subst IsAsked same (each t)
+
+recipes_made :
+    {T : Type 0} (make : T → RecipesRequest) (o : Option T) (r : Request)
+    → option_map (λ t. request.OfRecipes (make t)) o ≡ Some r → IsAsked r
+recipes_made make None r is = absurd (cc)
+recipes_made make (Some t) r is = let same : request.OfRecipes (make t) ≡ r = cc in subst IsAsked same tt
 
 spooled : (o : Option ℕ) (r : Request) → option_and_then spool_request o ≡ Some r → IsAsked r
 spooled None r is = absurd (cc)
@@ -90,6 +98,13 @@ asked_for are primary.S5F7 body r fits = subst IsAsked (sym fits.1) tt
 asked_for are primary.S6F15 body r fits = made tables_request.EventReport (λ t. tt) (identifier fits.0) r fits.2
 asked_for are primary.S6F19 body r fits = made tables_request.Report (λ t. tt) (identifier fits.0) r fits.2
 asked_for are primary.S6F23 body r fits = spooled (small_number fits.0) r fits.2
+asked_for are primary.S7F1 body r fits =
+    recipes_made (λ x. recipes_request.Inquire x.0 x.1) (both ppid identifier fits.0) r fits.2
+asked_for are primary.S7F3 body r fits =
+    recipes_made (λ x. recipes_request.Send x.0 (behind_first body)) (both ppid anything fits.0) r fits.2
+asked_for are primary.S7F5 body r fits = recipes_made recipes_request.Ask (ppid fits.0) r fits.2
+asked_for are primary.S7F17 body r fits = recipes_made recipes_request.Delete (each ppid fits.0) r fits.2
+asked_for are primary.S7F19 body r fits = subst IsAsked (sym fits.1) tt
 asked_for are primary.S10F3 body r fits =
     made (λ x. tables_request.Display x.0 x.1) (λ t. tt) (both code text fits.0) r fits.2
 asked_for are primary.S10F5 body r fits =

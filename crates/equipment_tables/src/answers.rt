@@ -66,7 +66,7 @@ pub(crate) fn is_past(len: usize, max_body: u32) -> bool
 }
 
 /// The elements of a slice of bytes are bytes.
-fn are_bytes(bytes: &[u8])
+pub fn are_bytes(bytes: &[u8])
     ensures { list_all (λ byte. nat_lt byte 256) bytes.now ≡ true }
 {
     let _ = bytes;

@@ -9,7 +9,7 @@ mod laws;
 mod plan;
 mod tables;
 
-pub use answers::{Answer, bounded, request_of};
+pub use answers::{Answer, are_bytes, bounded, request_of};
 pub use laws::{kept_tells_the_same, setups_are_as_worked, tables_are_looked_back_for};
 pub use line_end::HostPlan;
 pub use plan::{EquipmentPlan, Plans};

@@ -7,6 +7,8 @@ mod alarms;
 #[cfg(test)]
 mod config;
 #[cfg(test)]
+mod recipe_shapes;
+#[cfg(test)]
 mod recipes;
 #[cfg(test)]
 mod remote;

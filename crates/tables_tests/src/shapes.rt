@@ -314,7 +314,7 @@ fn is_read(alloc: Global, stream: u8, function: u8, body: &[u8]) -> bool {
     matches!(read(alloc, stream, function, body), Ok(Some(_)))
 }
 
-fn is_refused(alloc: Global, stream: u8, function: u8, body: &[u8]) -> bool {
+pub(crate) fn is_refused(alloc: Global, stream: u8, function: u8, body: &[u8]) -> bool {
     matches!(read(alloc, stream, function, body), Ok(None))
 }
 
@@ -348,8 +348,8 @@ fn bodies_have_their_shapes(rt: HostRuntime) -> Result<(), Fail> {
 fn establishes_whatever_the_body(rt: HostRuntime) -> Result<(), Fail> {
     let alloc = rt.alloc();
     assert!(rt; is_read(alloc, 1, 13, &[]) && is_read(alloc, 1, 13, &[0xFF, 0x00]));
-    assert!(rt; is_refused(alloc, 1, 2, &[]) && is_refused(alloc, 7, 19, &[]));
-    assert!(rt; is_known_stream(6) && !is_known_stream(7));
+    assert!(rt; is_refused(alloc, 1, 2, &[]) && is_refused(alloc, 7, 9, &[]));
+    assert!(rt; is_known_stream(6) && !is_known_stream(9));
     assert!(rt; is_known(2, 43) && !is_known(2, 44) && !is_known(13, 1));
     Ok(())
 }
@@ -409,7 +409,7 @@ fn enables(request: &Request<'_>, wanted: Option<u32>) -> bool {
 }
 
 // What a message asks for, to be looked at.
-fn asked<'a>(alloc: Global, stream: u8, function: u8, body: &'a [u8]) -> Request<'a> {
+pub(crate) fn asked<'a>(alloc: Global, stream: u8, function: u8, body: &'a [u8]) -> Request<'a> {
     match read(alloc, stream, function, body) {
         Ok(Some(request)) => request,
         _ => Request::OfTables(TablesRequest::AreYouThere),
