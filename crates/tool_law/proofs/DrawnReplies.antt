@@ -7,7 +7,7 @@ use Rattle.gem_alarms.specs.declared.alarms.AlarmStep.{AlarmStep}
 use Rattle.gem_alarms.specs.declared.alarms.AlarmStep.TheVariants as alarm_step
 use Rattle.gem_reports.specs.Reporting.{is_enabled_in as is_enabled_event, is_planned}
 use Rattle.gem_shapes.specs.Answers.{code_item}
-use Rattle.gem_shapes.specs.Primaries.{is_known, is_known_stream}
+use Rattle.gem_shapes.specs.Primaries.{is_known}
 use Rattle.gem_shapes.specs.declared.request.Request.{Request}
 use Rattle.gem_shapes.specs.declared.request.Request.TheVariants as request
 use Rattle.gem_shapes.specs.declared.request.TablesRequest.{TablesRequest}
@@ -56,8 +56,9 @@ use Rattle.tool_step.specs.Codes.{is_accepted_in, is_granted_in}
 use Rattle.tool_step.specs.Messages.{answer_turn, control_answer_duties, control_request_turn, dropped_turn, error_turn, established_duties, established_turn, is_establish_request, heard_turn, is_online_request, keep_turn, kept_turn, known_turn, message_turn, offline_turn, own_s1f13_duty, primary_turn, read_turn, request_turn, stray_turn, unkept_duties, unkept_turn}
 use Rattle.setup_store.specs.Entries.{Entry, bytes_of, has_room}
 use Rattle.tool_step.specs.declared.owed.Owed.{Owed}
-use Rattle.tool_step.specs.declared.owed.Owed.TheVariants.{Keep}
+use Rattle.tool_step.specs.declared.owed.Owed.TheVariants.{Answered, Keep, Recipes as OfRecipes}
 use Rattle.tool_step.specs.Setup.{accepted_item, has_space_code, next_setup, no_space}
+use Rattle.tool_step.specs.Recipes.{asked_of, recipes_text, takes_stream}
 use Rattle.tool_step.specs.Own.{OwnView, ToolDuty, event_report, is_communicating, is_enabled_in, is_local, is_online, quiet_turn, turn_before, turn_of, unowed, waiting_report, waiting_data, with_control, with_ledger, with_tables, with_tried, without_grant, without_waiting_data}
 use Rattle.tool_law.specs.Putting.{alarm_puts, block_timer_puts, changed_puts, character_puts, command_puts, dropped_puts, enabled_puts, event_puts, flow_puts, given_up_puts, lacks_number, line_timer_puts, loss_puts, matched_puts, message_puts, puts_none, reply_puts, reply_timer_puts, timeout_puts, took_puts}
 use Rattle.tool_step.specs.Replies.{block_timer, denied_turn, given_up_by_t4, given_up_turn, granted_turn, loss_turn, matched_turn, reply_timer, reply_turn, secondary_turn, timeout_turn}
@@ -70,7 +71,7 @@ use Rattle.tool_step.specs.Tool.{alarm_line, alarm_report_turn, alarm_turn, atte
 use Rattle.tool_law.proofs.CommandWalks.{Does, abort-are, answers-are, are-both, control-noted, own-requests-are}
 use Rattle.tool_law.proofs.Drawing.{AreFree, AreFreeDuties, IsFree, Needs, Spends, free-need, free-spend, halt-spend, needs-as, needs-behind, needs-both, needs-more, needs-none, needs-one, or-false, primary-spend, draw-spend}
 use Rattle.tool_law.proofs.DrawnSamples.{granted-trace-need}
-use Rattle.tool_law.proofs.DrawnTurns.{one-needs, free-one, common-free, noted-free, booked-free, control-free, error-spends, errors-need, comms-need, primary-need, going-need, event-need, NeedsFor, note-need, judged-need, report-need, left-need, leaving-need, failed-need}
+use Rattle.tool_law.proofs.DrawnTurns.{one-needs, free-one, common-free, noted-free, booked-free, control-free, error-spends, errors-need, comms-need, primary-need, going-need, event-need, NeedsFor, note-need, judged-need, report-need, left-need, leaving-need, failed-need, recipes-need}
 
 -- ---- a transaction ends without a reply
 
@@ -277,6 +278,7 @@ trace-request-need asked now message own =
 request-need : (asks : Request) (now : ℕ) (message : Message) (own : OwnView)
     → Needs 1 false (request_turn asks now message own).duties
 request-need (request.OfTables asked) now message own = answer-need asked message own
+request-need (request.OfRecipes asked) now message own = recipes-need (asked_of asked) message own
 request-need request.GoOffline now message own = control-request-need control_in.RequestOffline message own
 request-need request.GoOnline now message own = control-request-need control_in.RequestOnline message own
 request-need request.TransmitSpool now message own = transmit-need message own
@@ -311,6 +313,10 @@ answering-need own e = go own.owed
   where
     go : (owed : Option Owed) → Needs 0 false (owed_turn owed (unowed own)).duties
     go None = needs-none 0
+    go (Some (OfRecipes asked primary)) = needs-none 0
+    go (Some (Answered given primary)) =
+        free-need (owed_turn (Some (Answered given primary)) (unowed own)).duties
+        (answers-are common-free (recipes_text (unowed own) given) primary (λ body. tt))
     go (Some (Keep primary)) =
         free-need (owed_turn (Some (Keep primary)) (unowed own)).duties
         (answers-are common-free (sent.text_of (unowed own) (accepted_item primary)) primary (λ body. tt))
@@ -318,7 +324,7 @@ answering-need own e = go own.owed
 known-need : (now : ℕ) (header : Header) (message : Message) (own : OwnView)
     → Needs 1 false (known_turn now header message own).duties
 known-need now header message own =
-    go (is_known_stream message.stream) (is_known message.stream message.function)
+    go (takes_stream own message.stream) (is_known message.stream message.function)
     (request_of message.stream message.function message.body)
   where
     go : (stream function : Bool) (asks : Option Request)

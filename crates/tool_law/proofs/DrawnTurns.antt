@@ -14,6 +14,9 @@ use Rattle.gem_states.specs.declared.comms.CommsIn.TheVariants as comms_in
 use Rattle.gem_states.specs.declared.comms.CommsOut.{CommsOut}
 use Rattle.gem_states.specs.declared.comms.CommsOut.TheVariants as comms_out
 use Rattle.gem_states.specs.declared.control.ControlIn.{ControlIn}
+use Rattle.gem_recipes.specs.declared.asking.RecipesAsked.{RecipesAsked}
+use Rattle.gem_recipes.specs.Asking.{is_change}
+use Rattle.message_flow.specs.declared.message.Message.{Message}
 use Rattle.trace_log.specs.Log.{Happening}
 use Rattle.trace_log.specs.Names.{Spooled, spooled_name}
 use Rattle.message_end.specs.declared.unsent.Unsent.{Unsent}
@@ -28,7 +31,9 @@ use Rattle.equipment_tables.specs.Tables.{overwrites}
 use Rattle.spool_ledger.specs.Ledger.{Booked, LedgerView, room_for}
 use Rattle.spool_ledger.specs.Storing.{stored, stored_by}
 use Rattle.tool_step.specs.declared.kind.Kind.{Kind}
-use Rattle.tool_step.specs.Own.{OwnView, ToolCommands, ToolDuty, ToolTurn, event_report, is_communicating, is_online, quiet_turn, with_ledger, with_comms}
+use Rattle.tool_step.specs.declared.owed.Owed.TheVariants.{Recipes}
+use Rattle.tool_step.specs.Own.{OwnView, ToolCommands, ToolDuty, ToolTurn, event_report, is_communicating, is_online, owing, quiet_turn, untold, with_ledger, with_comms}
+use Rattle.tool_step.specs.Recipes.{recipes_turn}
 use Rattle.tool_law.specs.Putting.{Putting, failed_puts, is_at_end, lacks_number, leaving_puts, left_puts, puts, puts_none, report_puts, runs_out, text_puts}
 use Rattle.tool_step.specs.Reports.{judged_turn, report_turn, text_turn, unreported_turn}
 use Rattle.tool_step.specs.Sent as sent
@@ -45,6 +50,18 @@ one-needs h duties is = needs-as 0 1 h h duties (omega arith) refl is
 
 pub free-one : (duties : List ToolDuty) → AreFreeDuties duties → Needs 1 false duties
 free-one duties free = one-needs false duties (free-need duties free)
+
+-- what is asked of the recipes is asked without a word
+pub recipes-need : (asked : RecipesAsked) (message : Message) (own : OwnView)
+    → Needs 1 false (recipes_turn asked message own).duties
+recipes-need asked message own = go (message.wait || is_change asked)
+  where
+    owes : OwnView
+    owes = owing (Recipes asked (untold message)) own
+
+    go : (asks : Bool) → Needs 1 false (if asks then quiet_turn owes else quiet_turn own).duties
+    go true = free-one [] tt
+    go false = free-one [] tt
 
 pub noted-free : (lines : List Happening) → AreFree (lines_commands lines)
 noted-free [] = tt

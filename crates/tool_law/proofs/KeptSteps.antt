@@ -21,7 +21,7 @@ use Rattle.message_end.specs.History.{noted_in, written_in}
 use Rattle.equipment_tables.specs.declared.plan.EquipmentPlan.{EquipmentPlan}
 use Rattle.equipment_tables.specs.Plan.{EquipmentPlanFits}
 use Rattle.tool_law.proofs.SpoolSound.{carried-good, settled-good}
-use Rattle.tool_step.specs.Equipment.{EquipmentView, act, begun_step, ended_step, is_marked_out, kept_step, needs_numbers, parts_done, reserved, settled_step, settled_went}
+use Rattle.tool_step.specs.Equipment.{EquipmentView, act, begun_step, done_step, ended_step, is_marked_out, kept_step, needs_numbers, parts_done, reserved, served_step, settled_step, settled_went}
 use Rattle.spool_file.specs.File.{SpoolFile}
 use Rattle.tool_step.proofs.StepFiles.{kept-same, settled-mark}
 use Rattle.tool_law.specs.Sound.{AllCanBeSent}
@@ -80,6 +80,32 @@ module _ (plan : EquipmentPlan) (base : ℕ) (fits : EquipmentPlanFits plan) whe
     area = kept-area step.next.node.own step.next.file at.area;
   }
 
+  -- and the recipes are asked
+  served-at :
+      (slots : ℕ) (stood : Numbered) (doings : List Doing) (now limit : ℕ) (input : Input ToolCommand)
+      (Called : List LineCall → Type 0) (step : Step EquipmentView Happening)
+      → FileAt plan base fits slots stood doings now limit input Called step
+      → FileAt plan base fits slots stood doings now limit input Called (served_step step)
+  served-at slots stood doings now limit input Called step at = record {
+    node = record {
+      tries = at.node.tries;
+      at = record {
+        core = at.node.at.core;
+        held = record {
+          plan_is = at.node.at.held.plan_is;
+          texts = at.node.at.held.texts;
+          traced = at.node.at.held.traced;
+          reports = at.node.at.held.reports;
+          ledger = at.node.at.held.ledger;
+          tried_is = at.node.at.held.tried_is;
+        };
+      };
+    };
+    list = at.list;
+    mark = at.mark;
+    area = at.area;
+  }
+
   -- the whole step, from what was begun
   act-does :
       (slots : ℕ) (stood : Numbered) (doings : List Doing) (now limit : ℕ) (input : Input ToolCommand)
@@ -89,11 +115,13 @@ module _ (plan : EquipmentPlan) (base : ℕ) (fits : EquipmentPlanFits plan) whe
       → DoesStep (end_plan plan) (DidOf plan) base doings input now (and_then (settled_went went) (ended_step now))
   act-does slots stood doings now limit input (Goes step) at =
       file-steps plan base fits slots (carried_out step.next.node.own.ledger).stood doings now limit input
-      (ended_step now (kept_step (settled_step step)))
+      (ended_step now (done_step step))
       (ended-at plan base fits slots (carried_out step.next.node.own.ledger).stood doings now limit input
+      (done_step step)
+      (served-at slots (carried_out step.next.node.own.ledger).stood doings now limit input (AreOfStep input now)
       (kept_step (settled_step step))
       (kept-at slots (carried_out step.next.node.own.ledger).stood doings now limit input (AreOfStep input now)
-      (settled_step step) (settled-at slots stood doings now limit input (AreOfStep input now) step at)))
+      (settled_step step) (settled-at slots stood doings now limit input (AreOfStep input now) step at))))
   act-does slots stood doings now limit input (Spent step) at =
       file-does plan base fits slots (carried_out step.next.node.own.ledger).stood doings now limit input
       (AreBegunOf input now) (settled_step step)

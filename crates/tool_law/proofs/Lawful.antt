@@ -1,5 +1,5 @@
 -- That the equipment keeps the law of an end.
-use Rattle.std.proofs.Common.{◌≡◌, ◌≢◌, refl, sym, ap, subst, ◌∙◌, arith, Bool, true, false, ℕ, ◌≤◌, List, [], ◌∷◌, ◌++◌, replicate, Option, Some, None, if◌then◌else◌, zero, suc}
+use Rattle.std.proofs.Common.{◌≡◌, ◌≢◌, refl, sym, ap, subst, ◌∙◌, arith, ◌⊎◌, inl, inr, Bool, true, false, ℕ, ◌≤◌, List, [], ◌∷◌, ◌++◌, replicate, Option, Some, None, if◌then◌else◌, zero, suc}
 use Rattle.std.specs.Option.{option_map}
 use Rattle.std.proofs.Math.Nat.{le_trans}
 use Rattle.std.specs.Prelude.{IfSome, map, slice_get}
@@ -25,6 +25,7 @@ use Rattle.message_end.specs.Starts.IsStartOf.{of_equipment}
 use Rattle.message_end.specs.Parts.{Node, after_parts, core_after, core_step, went_with, with_own}
 use Rattle.message_end.proofs.InSteps.{none-front}
 use Rattle.message_end.proofs.Lower.{lower}
+use Rattle.message_end.proofs.Members.{has-either}
 use Rattle.message_end.proofs.NodeLawful.{begins-new, history-says}
 use Rattle.message_end.proofs.Growing.{front-both, front-more, front-same, parts-grow}
 use Rattle.message_end.specs.Own.{Has}
@@ -32,8 +33,9 @@ use Rattle.tool_step.specs.Grants.{GrantView}
 use Rattle.tool_step.specs.declared.kind.Kind.{Kind}
 use Rattle.equipment_tables.specs.declared.plan.EquipmentPlan.{EquipmentPlan}
 use Rattle.tool_step.specs.declared.owed.Owed.{Owed}
-use Rattle.tool_step.specs.declared.owed.Owed.TheVariants.{Keep}
+use Rattle.tool_step.specs.declared.owed.Owed.TheVariants.{Answered, Keep, Recipes as OfRecipes}
 use Rattle.tool_step.specs.Own.{OwnView, ToolPart, unowed}
+use Rattle.tool_step.specs.Recipes.{owes_recipes}
 use Rattle.tool_step.specs.Setup.{setup_in}
 use Rattle.tool_step.proofs.StepFiles.{kept-same}
 use Rattle.equipment_tables.specs.Plan.{EquipmentPlanFits}
@@ -44,10 +46,10 @@ use Rattle.tool_step.specs.Spooling.{end_of_spooling, taking_turn}
 use Rattle.tool_law.proofs.SpoolSound.{carried-good, new-good, settled-good}
 use Rattle.spool_works.specs.DiskWorks.{DiskWork, behind_change, fronts_of, up_to_change}
 use Rattle.spool_works.proofs.EachFront.{each-front, up-to}
-use Rattle.tool_step.specs.Disk.{stops, works_of}
+use Rattle.tool_step.specs.Disk.{stops, unserved, works_of}
 use Rattle.tool_step.specs.End.{machine}
 use Rattle.tool_step.specs.Losses.{losses}
-use Rattle.tool_step.specs.Equipment.{unstarted, EquipmentView, act, begun_step, ended_step, is_marked_out, needs_numbers, kept_step, kept_view, new_own, node_step, oldest_of, parts_done, reserved, restarts, settled, settled_step, settled_went, started_on, starts, went_with_file}
+use Rattle.tool_step.specs.Equipment.{unstarted, EquipmentView, act, begun_step, done_step, ended_step, is_marked_out, needs_numbers, kept_view, new_own, node_step, oldest_of, parts_done, reserved, restarts, served_view, settled, settled_went, started_on, starts, went_with_file}
 use Rattle.spool_works.specs.Found.{first_in, found_in, spooled_of}
 use Rattle.tool_law.specs.Laws.{DidOf}
 use Rattle.tool_step.specs.Step.{answering, delay_timer, end_plan, first_parts, input_part, last_parts, late_parts, owed_turn}
@@ -205,6 +207,8 @@ module _ (plan : EquipmentPlan) (fits : EquipmentPlanFits plan) (slots : ℕ) (s
       go : (owed : Option Owed) → IsSound plan slots stood (owed_turn owed (unowed own)).own
       go None = unowed-sound own sound
       go (Some (Keep primary)) = unowed-sound own sound
+      go (Some (OfRecipes asked primary)) = unowed-sound own sound
+      go (Some (Answered given primary)) = unowed-sound own sound
 
   pub last-sound : (oldest : Option Spooled) → IfSome oldest CanBeSent → (now : ℕ) → AllKeepSound (last_parts oldest
       now)
@@ -258,6 +262,19 @@ module _ (plan : EquipmentPlan) (fits : EquipmentPlanFits plan) where
     own = good.own;
     list = subst AllCanBeSent
         (sym (kept-same (λ (file : SpoolFile). file.list) s.node.own s.file (λ bytes other. refl))) good.list;
+  }
+
+  -- and the recipes are asked
+  pub served-view-good : (s : EquipmentView) → IsGoodView s → IsGoodView (served_view s)
+  served-view-good s good = record {
+    own = record {
+      plan_is = good.own.plan_is;
+      texts = good.own.texts;
+      traced = good.own.traced;
+      reports = good.own.reports;
+      ledger = good.own.ledger;
+    };
+    list = good.list;
   }
 
   pub begun-good : (s : EquipmentView) (input : Input ToolCommand) (now : ℕ) → IsGoodView s
@@ -330,8 +347,9 @@ module _ (plan : EquipmentPlan) (fits : EquipmentPlanFits plan) where
       go : (went : Went EquipmentView Happening) → IsGoodView (step_in went).next
           → IsGoodView (step_in (and_then (settled_went went) (ended_step now))).next
       go (Goes step) so =
-          ended-good (kept_step (settled_step step)) now
-          (kept-view-good (settled step.next) (settled-view-good step.next so))
+          ended-good (done_step step) now
+          (served-view-good (kept_view (settled step.next))
+          (kept-view-good (settled step.next) (settled-view-good step.next so)))
       go (Spent step) so = settled-view-good step.next so
 
 -- ---- where the disk stops a step
@@ -354,7 +372,7 @@ act-grows (Goes step) now =
     go (after_parts Some parts (node_step done)) (parts-grow parts (node_step done))
   where
     done : Step EquipmentView Happening
-    done = kept_step (settled_step step)
+    done = done_step step
 
     parts : List ToolPart
     parts = last_parts (oldest_of done.next) now
@@ -364,12 +382,50 @@ act-grows (Goes step) now =
     go (Goes next) grows = grows
     go (Spent next) grows = grows
 
+-- where the recipes are asked, all of that was noted
+unserved-is :
+    (begun : Went EquipmentView Happening) (front : List Happening) → Has (unserved begun) front
+    → front ≡ (step_in begun).notes
+unserved-is (Goes step) front has = go (owes_recipes step.next.node.own.owed) has
+  where
+    go : (owes : Bool) → Has (if owes then step.notes ∷ [] else []) front → front ≡ step.notes
+    go true (inl is) = is
+    go true (inr none) = absurd none
+    go false none = absurd none
+unserved-is (Spent step) front none = absurd none
+
+-- what holds of what was noted where the disk fails at a work, and of all that was noted up to the works, holds of
+-- whatever was noted where a step is stopped
+pub each-stop :
+    (P : List Happening → Type 0) (s : EquipmentView) (input : Input ToolCommand) (now : ℕ)
+    → ((front : List Happening)
+    → Has (fronts_of [] (works_of s input now) (step_in (begun_step s input now)).notes) front → P front)
+    → P (step_in (begun_step s input now)).notes
+    → (front : List Happening) → Has (stops s input now) front → P front
+each-stop P s input now works whole front has =
+    go
+    (has-either (fronts_of [] (works_of s input now) (step_in (begun_step s input now)).notes)
+    (unserved (begun_step s input now)) front has)
+  where
+    go : Has (fronts_of [] (works_of s input now) (step_in (begun_step s input now)).notes) front
+        ⊎ Has (unserved (begun_step s input now)) front → P front
+    go (inl at) = works front at
+    go (inr at) = subst P (sym (unserved-is (begun_step s input now) front at)) whole
+
+pub stopped-front :
+    (s : EquipmentView) (input : Input ToolCommand) (now : ℕ) (front : List Happening) → Has (stops s input now) front
+    → IsFront front (step_in (begun_step s input now)).notes
+stopped-front s input now front has =
+    let notes = (step_in (begun_step s input now)).notes in
+    each-stop (λ ns. IsFront ns notes) s input now (fronts-are (works_of s input now) [] notes) (front-same notes) front
+    has
+
 pub stops-are :
     (s : EquipmentView) (input : Input ToolCommand) (now : ℕ) (front : List Happening) → Has (stops s input now) front
     → IsFront front (step_in (act s input now)).notes
 stops-are s input now front has =
     front-both front (step_in (begun_step s input now)).notes (step_in (act s input now)).notes
-    (fronts-are (works_of s input now) [] (step_in (begun_step s input now)).notes front has)
+    (stopped-front s input now front has)
     (act-grows (begun_step s input now) now)
 
 -- so it hasn't come to its end
@@ -378,8 +434,7 @@ pub stops-unended :
     (input : Input ToolCommand) (now : ℕ) → DidOf plan base doings s → MayTake ToolCommandFits input
     → (front : List Happening) → Has (stops s input now) front → NoneEnds front
 stops-unended plan base fits doings s input now did may front has =
-    let notes = (step_in (begun_step s input now)).notes in
-    let first = fronts-are (works_of s input now) [] notes front has in
+    let first = stopped-front s input now front has in
     none-front front first.rest (subst NoneEnds first.whole (begun-unended plan base fits doings s input now did may))
 
 -- ---- starts

@@ -1,4 +1,5 @@
 pub mod Areas
+pub mod Asides
 pub mod CommandWalks
 pub mod CoreSteps
 pub mod Drawing
@@ -11,6 +12,7 @@ pub mod Lawful
 pub mod LawfulLosses
 pub mod LedgerLines
 pub mod MildCommands
+pub mod Offers
 pub mod QuietCommands
 pub mod QuietMessages
 pub mod QuietSamples

@@ -21,6 +21,7 @@ use Rattle.tool_step.specs.declared.kind.Kind.{Kind}
 use Rattle.equipment_tables.specs.declared.plan.EquipmentPlan.{EquipmentPlan}
 use Rattle.equipment_tables.specs.Answers.{has_bytes, lines_of, spelled_body}
 use Rattle.tool_step.specs.Own.{OwnView, event_report}
+use Rattle.tool_step.specs.Recipes.{bounded_text}
 use Rattle.tool_step.specs.Sampling.{trace_data, trace_inquiry}
 use Rattle.tool_step.specs.Sent as sent
 use Rattle.tool_law.specs.Sound.{CanBeSent, IsSound}
@@ -62,6 +63,16 @@ spelled max most item =
     go false false false e f = tt
     go false false true e f =
         record { short = grind (arith, nat_tests, e, most); bytes = are-bytes (shortest_spelling item) f }
+
+-- so of a text that needs no item
+pub bounded : (max : ℕ) → max ≤ longest_text → (bytes : List ℕ) → IsSpelled (bounded_text max bytes)
+bounded max most bytes = go (nat_lt max (length bytes)) (list_all (λ byte. nat_lt byte 256) bytes) refl refl
+  where
+    go : (long all : Bool) → nat_lt max (length bytes) ≡ long → list_all (λ byte. nat_lt byte 256) bytes ≡ all
+        → IsSpelled (if long || not all then text.TooLong else text.Body bytes)
+    go true all e f = tt
+    go false false e f = tt
+    go false true e f = record { short = grind (arith, nat_tests, e, most); bytes = are-bytes bytes f }
 
 -- ---- commands that call no line
 

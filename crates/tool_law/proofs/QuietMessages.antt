@@ -4,7 +4,7 @@ use Rattle.std.specs.Option.{option_map}
 use Rattle.std.specs.Prelude.{IfSome}
 use Rattle.block_codec.specs.declared.header.Header.{Header}
 use Rattle.gem_shapes.specs.Answers.{code_item}
-use Rattle.gem_shapes.specs.Primaries.{is_known, is_known_stream}
+use Rattle.gem_shapes.specs.Primaries.{is_known}
 use Rattle.gem_shapes.specs.declared.request.Request.{Request}
 use Rattle.gem_shapes.specs.declared.request.Request.TheVariants as request
 use Rattle.gem_shapes.specs.declared.request.TablesRequest.{TablesRequest}
@@ -36,9 +36,10 @@ use Rattle.equipment_tables.specs.Answers.{answer_of, established_of, lines_of, 
 use Rattle.tool_step.specs.Codes.{is_accepted_in, is_granted_in}
 use Rattle.setup_store.specs.Entries.{Entry, bytes_of, has_room}
 use Rattle.tool_step.specs.declared.owed.Owed.{Owed}
-use Rattle.tool_step.specs.declared.owed.Owed.TheVariants.{Keep}
+use Rattle.tool_step.specs.declared.owed.Owed.TheVariants.{Answered, Keep, Recipes as OfRecipes}
 use Rattle.tool_step.specs.Setup.{accepted_item, has_space_code, next_setup, no_space}
 use Rattle.tool_step.specs.Step.{answering, owed_turn}
+use Rattle.tool_step.specs.Recipes.{asked_of, recipes_text, takes_stream}
 use Rattle.tool_step.specs.Own.{OwnView, ToolTurn, event_report, is_communicating, is_enabled_in as is_comms_enabled, is_local, is_online, turn_before, turn_of, unowed, waiting_report, waiting_data, with_control, with_ledger, with_tables, with_tried, without_grant, without_report, without_waiting_data}
 use Rattle.tool_step.specs.Messages.{answer_turn, control_answer_duties, control_request_turn, dropped_turn, error_turn, established_duties, established_turn, is_establish_request, heard_turn, is_online_request, keep_turn, kept_turn, known_turn, message_turn, offline_turn, primary_turn, read_turn, recorded_turn, request_turn, stray_turn, unkept_duties}
 use Rattle.equipment_tables.specs.Plan.{EquipmentPlanFits}
@@ -60,7 +61,7 @@ use Rattle.tool_law.proofs.CommandWalks.{Does, abort-are, are-both, control-note
 use Rattle.tool_law.proofs.TriedSteps.{IsMild, IsMildCommand}
 use Rattle.tool_law.proofs.MildCommands.{IsSpelled, one-note, sent-quiet, may-report, may-unload, may-ask-unload, can-event, common-mild, IsOdd, may-tell, body-quiet, lines-plain, lines-quiet}
 use Rattle.tool_law.proofs.QuietSamples.{granted-trace-quiet, waiting-trace-is}
-use Rattle.tool_law.proofs.QuietTurns.{Sound, Quiet, AreQuiet, text-is, kept, ungranted, unreported, untraced, booked-sound, unloaded-sound, waiting-can, kept-or-ended, fixed-quiet, nothing-quiet, note-quiet, led-quiet, before-quiet, booked-quiet, comms-quiet, control-quiet, leaving-quiet}
+use Rattle.tool_law.proofs.QuietTurns.{Sound, Quiet, AreQuiet, answer-is, recipes-quiet, text-is, kept, ungranted, unreported, untraced, booked-sound, unloaded-sound, waiting-can, kept-or-ended, fixed-quiet, nothing-quiet, note-quiet, led-quiet, before-quiet, booked-quiet, comms-quiet, control-quiet, leaving-quiet}
 
 module _ (plan : EquipmentPlan) (TriedIs : Option ℕ → Type 0) (fits : EquipmentPlanFits plan) (slots : ℕ)
     (stood : Numbered)
@@ -449,6 +450,8 @@ module _ (plan : EquipmentPlan) (TriedIs : Option ℕ → Type 0) (fits : Equipm
         → (Sound plan TriedIs fits slots stood) own
         → (Quiet plan TriedIs fits slots stood) (request_turn request now message own)
     request-is-quiet (request.OfTables asked) now message own sound = answer-quiet asked message own sound
+    request-is-quiet (request.OfRecipes asked) now message own sound =
+        (recipes-quiet plan TriedIs fits slots stood) (asked_of asked) message own sound
     request-is-quiet request.GoOffline now message own sound =
         control-request-quiet control_in.RequestOffline message own sound
     request-is-quiet request.GoOnline now message own sound =
@@ -513,6 +516,13 @@ module _ (plan : EquipmentPlan) (TriedIs : Option ℕ → Type 0) (fits : Equipm
 
         go : (owed : Option Owed) → (Quiet plan TriedIs fits slots stood) (owed_turn owed (unowed own))
         go None = record { quiet = tt; sound = held }
+        go (Some (OfRecipes asked primary)) = record { quiet = tt; sound = held }
+        go (Some (Answered answer primary)) = record {
+          quiet =
+              answers-quiet (recipes_text (unowed own) answer)
+              ((answer-is plan TriedIs fits slots stood) (unowed own) held answer) primary;
+          sound = held;
+        }
         go (Some (Keep primary)) = record {
           quiet =
               answers-quiet (sent.text_of (unowed own) (accepted_item primary))
@@ -523,7 +533,7 @@ module _ (plan : EquipmentPlan) (TriedIs : Option ℕ → Type 0) (fits : Equipm
     known-quiet : (now : ℕ) (header : Header) (message : Message) (own : OwnView) → (Sound plan TriedIs fits slots stood) own
         → (Quiet plan TriedIs fits slots stood) (known_turn now header message own)
     known-quiet now header message own sound =
-        go (not (is_known_stream message.stream)) (not (is_known message.stream message.function))
+        go (not (takes_stream own message.stream)) (not (is_known message.stream message.function))
       where
         read : Option Request
         read = request_of message.stream message.function message.body

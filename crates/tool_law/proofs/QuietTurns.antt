@@ -1,5 +1,5 @@
 -- Turns of the states, and of open messages that end, keep what is kept sound.
-use Rattle.std.proofs.Common.{◌≡◌, refl, sym, subst, ◌∙◌, Bool, true, false, ℕ, ◌≤◌, ◌&&◌, List, [], ◌∷◌, ◌++◌, All, Option, Some, None, if◌then◌else◌}
+use Rattle.std.proofs.Common.{◌≡◌, refl, sym, subst, ◌∙◌, Bool, true, false, ℕ, ◌≤◌, ◌&&◌, ◌||◌, List, [], ◌∷◌, ◌++◌, All, map, Option, Some, None, if◌then◌else◌}
 use Rattle.std.specs.List.{cons_option, filter_map, find}
 use Rattle.std.specs.Option.{option_map}
 use Rattle.std.specs.Prelude.{IfSome}
@@ -27,7 +27,16 @@ use Rattle.tool_step.specs.declared.kind.Kind.{Kind}
 use Rattle.tool_step.specs.declared.kind.Kind.TheVariants as kind
 use Rattle.equipment_tables.specs.declared.plan.EquipmentPlan.{EquipmentPlan}
 use Rattle.equipment_tables.specs.Answers.{identity_of}
-use Rattle.tool_step.specs.Own.{OwnView, ToolCommands, ToolDuty, ToolTurn, event_report, is_granted_by, is_report_of, quiet_turn, sent_report, turn_before, waiting_report, with_comms, with_control, with_ledger, without_grant, without_report, without_waiting_data}
+use Rattle.gem_recipes.specs.declared.asking.RecipesAnswer.{RecipesAnswer}
+use Rattle.gem_recipes.specs.declared.asking.RecipesAnswer.TheVariants as given
+use Rattle.gem_recipes.specs.declared.asking.RecipesAsked.{RecipesAsked}
+use Rattle.gem_recipes.specs.Asking.{is_change}
+use Rattle.gem_shapes.specs.Answers.{code_item}
+use Rattle.message_flow.specs.declared.message.Message.{Message}
+use Rattle.secs_items.specs.declared.item.Item.TheVariants as item
+use Rattle.tool_step.specs.declared.owed.Owed.TheVariants.{Recipes}
+use Rattle.tool_step.specs.Recipes.{recipe_text, recipes_text, recipes_turn}
+use Rattle.tool_step.specs.Own.{OwnView, ToolCommands, ToolDuty, ToolTurn, event_report, is_granted_by, is_report_of, owing, quiet_turn, sent_report, turn_before, untold, waiting_report, with_comms, with_control, with_ledger, without_grant, without_report, without_waiting_data}
 use Rattle.equipment_tables.specs.Plan.{EquipmentPlanFits}
 use Rattle.tool_step.specs.Sent as sent
 use Rattle.tool_law.specs.Sound.{CanBeSent, IsGoodLedger, IsHeld}
@@ -44,7 +53,7 @@ use Rattle.tool_law.proofs.TriedDoings.{IsFine}
 use Rattle.tool_law.proofs.TriedParts.{IsMildTurn}
 use Rattle.tool_law.proofs.CommandWalks.{Does, are-both, comms-noted, control-noted, open-are}
 use Rattle.tool_law.proofs.TriedSteps.{AreMildDuties, IsMild, IsMildCommand}
-use Rattle.tool_law.proofs.MildCommands.{IsSpelled, can-event, common-mild, lines-quiet, may-establish, one-note, sent-quiet, spelled}
+use Rattle.tool_law.proofs.MildCommands.{IsSpelled, bounded, can-event, common-mild, lines-quiet, may-establish, one-note, sent-quiet, spelled}
 
 module _ (plan : EquipmentPlan) (TriedIs : Option ℕ → Type 0) (fits : EquipmentPlanFits plan) (slots : ℕ)
     (stood : Numbered)
@@ -64,6 +73,13 @@ module _ (plan : EquipmentPlan) (TriedIs : Option ℕ → Type 0) (fits : Equipm
 
     pub text-is : (own : OwnView) → Sound own → (item : Item) → IsSpelled (sent.text_of own item)
     text-is own sound item = spelled own.plan.line.max_body (most own sound) item
+
+    pub answer-is : (own : OwnView) → Sound own → (given : RecipesAnswer) → IsSpelled (recipes_text own given)
+    answer-is own sound (given.Code code) = text-is own sound (code_item code)
+    answer-is own sound (given.Body name None) = text-is own sound (item.L [])
+    answer-is own sound (given.Body name (Some body)) =
+        bounded own.plan.line.max_body (most own sound) (recipe_text name body)
+    answer-is own sound (given.Names names) = text-is own sound (item.L (map item.A names))
 
     -- ---- what is kept stays sound
 
@@ -176,6 +192,18 @@ module _ (plan : EquipmentPlan) (TriedIs : Option ℕ → Type 0) (fits : Equipm
 
     pub nothing-quiet : (own : OwnView) → Sound own → Quiet (quiet_turn own)
     nothing-quiet own sound = record { quiet = tt; sound = sound }
+
+    -- what is asked of the recipes is asked without a word
+    pub recipes-quiet : (asked : RecipesAsked) (message : Message) (own : OwnView) → Sound own
+        → Quiet (recipes_turn asked message own)
+    recipes-quiet asked message own sound = go (message.wait || is_change asked)
+      where
+        owes : OwnView
+        owes = owing (Recipes asked (untold message)) own
+
+        go : (asks : Bool) → Quiet (if asks then quiet_turn owes else quiet_turn own)
+        go true = nothing-quiet owes (kept own owes sound refl refl refl refl refl refl)
+        go false = nothing-quiet own sound
 
     pub note-quiet : (own : OwnView) (what : Happening) → Sound own → IsFine what
         → Quiet (fixed_turn own (Note what ∷ []))

@@ -3,7 +3,7 @@ use Rattle.std.proofs.Common.{◌≡◌, refl, sym, ap, subst, ◌∙◌, Bool, 
 use Rattle.std.specs.Option.{option_and_then, option_map}
 use Rattle.block_codec.specs.declared.header.Header.{Header}
 use Rattle.gem_shapes.specs.Elements.{identifier}
-use Rattle.gem_shapes.specs.Primaries.{is_known, is_known_stream, primary_with}
+use Rattle.gem_shapes.specs.Primaries.{is_known, primary_with}
 use Rattle.gem_shapes.specs.Requests.{shape_of}
 use Rattle.gem_shapes.specs.declared.primary.Primary.{Primary}
 use Rattle.gem_shapes.specs.declared.primary.Primary.TheVariants as primary
@@ -40,10 +40,12 @@ use Rattle.tool_step.specs.declared.kind.Kind.TheVariants as kind
 use Rattle.tool_step.specs.Codes.{is_accepted_in, is_granted_in}
 use Rattle.tool_step.specs.Messages.{dropped_turn, error_turn, established_turn, heard_turn, is_establish_request, is_online_request, kept_turn, known_turn, message_turn, offline_turn, primary_turn, read_turn, recorded_turn, request_turn, requested_turn, stray_turn, unkept_turn}
 use Rattle.tool_step.specs.Own.{OwnView, ToolTurn, is_communicating, is_enabled_in as is_comms_enabled, is_online, waiting_report, waiting_data, without_grant, without_waiting_data}
+use Rattle.tool_step.specs.Recipes.{takes_stream}
 use Rattle.tool_step.specs.Replies.{granted_turn, loss_turn, matched_turn, reply_turn, secondary_turn}
 use Rattle.tool_step.specs.Setup.{next_kept, next_setup}
 use Rattle.tool_step.specs.Spooling.{grant_given_turn}
 use Rattle.spool_ledger.specs.Unloading.{confirmed}
+use Rattle.gem_shapes.proofs.RecipeRequests.{each_request}
 use Rattle.tool_law.proofs.TurnWalks.{nothing-of, dropped-of, stray-of, offline-of, error-of}
 use Rattle.tool_law.proofs.LedgerLines.{confirmed-lines}
 use Rattle.tool_reports.proofs.SilentCommands.{common-silent}
@@ -58,7 +60,7 @@ use Rattle.tool_step.specs.Sampling.{granted_trace_turn}
 use Rattle.tool_reports.proofs.QuietNotes.{one-behind}
 use Rattle.tool_law.proofs.CoreSteps.{CoreStep}
 use Rattle.tool_reports.proofs.HostReports.{AsksOf, asks-none, IsNewest, newest-lasts, IsOther, may-behind, may-establish, named, is-other, requested, event_asked, report_asked}
-use Rattle.tool_reports.proofs.OwedReplies.{EndsOwing, ends-owing, keep-owing, unkept-keeps}
+use Rattle.tool_reports.proofs.OwedReplies.{EndsOwing, ends-owing, keep-owing, recipes-owing, unkept-keeps}
 use Rattle.tool_reports.proofs.HeardReports.{asked-noted, established-plain, request-keeps, answered-at, event-answer, report-answer}
 
 module _
@@ -119,13 +121,28 @@ module _
             ap (λ (found : Option Primary). option_and_then (λ q. asked_by (shape_of q) message.body) found) with_p
             ∙ is
 
+        -- one of which nothing is to be kept
+        Recorded : Request → Type 0
+        Recorded one =
+            request_of message.stream message.function message.body ≡ Some one → next_setup one message own ≡ None
+            → KeptBy (recorded_turn message (request_turn one now message own))
+
+        recorded : (one : Request) → Recorded one
+        recorded =
+            each_request Recorded
+            (λ asked found none.
+            (recipes-owing plan fits looked start said before) asked message own next it
+            (past_in (so_far plan start said before step), next-past) other
+            (next-holds (request.OfRecipes asked) found none))
+            (λ one apart found none.
+            owing (recorded_turn message (request_turn one now message own))
+            ((request-keeps plan fits looked start said before) message (IsNewest message) (newest-lasts message)
+            (may-behind message other) one now own next apart it
+            (past_in (so_far plan start said before step), next-past) (next-holds one found none)))
+
         heard : (list : Option (List Entry)) → next_setup asks message own ≡ list
             → KeptBy (heard_turn list now asks message own)
-        heard None none =
-            owing (recorded_turn message (request_turn asks now message own))
-            ((request-keeps plan fits looked start said before) message (IsNewest message) (newest-lasts message)
-            (may-behind message other) asks now own next it (past_in (so_far plan start said before step), next-past)
-            (next-holds asks found none))
+        heard None none = recorded asks found none
         heard (Some list) some = go (has_room (bytes_of list)) refl
           where
             go : (room : Bool) → has_room (bytes_of list) ≡ room → KeptBy (kept_turn room list asks message own)
@@ -256,7 +273,7 @@ module _
         go (Some p) is = by-primary p now header is
 
     known-keeps : (now : ℕ) (header : Header) → KeptBy (known_turn now header message own)
-    known-keeps now header = go (not (is_known_stream message.stream)) (not (is_known message.stream message.function))
+    known-keeps now header = go (not (takes_stream own message.stream)) (not (is_known message.stream message.function))
       where
         turn_by : Bool → Bool → ToolTurn
         turn_by strange unknown =

@@ -37,6 +37,7 @@ use Rattle.tool_reports.specs.Reported.{HoldsItsValues, IsTextOf, count_of, coun
 use Rattle.tool_step.specs.Sampling.{tiaack_code, tiaack_in, trace_turn}
 use Rattle.tool_step.specs.Sent as sent
 use Rattle.tool_step.specs.Setup.{next_setup}
+use Rattle.gem_shapes.proofs.RecipeRequests.{asks_recipes}
 use Rattle.tool_law.proofs.CommandWalks.{abort-are, long-are, answers-are}
 use Rattle.tool_law.proofs.TurnWalks.{before-of, established-of, control-request-of}
 use Rattle.tool_law.proofs.LedgerLines.{all-out-lines}
@@ -176,18 +177,20 @@ module _
       keeps = stays own (trace_turn asked now message own).own refl refl refl refl refl refl;
     }
 
-    request-plain : (asks : Request) (now : ℕ) (own : OwnView)
+    -- (what the recipes are asked for waits for them)
+    request-plain : (asks : Request) (now : ℕ) (own : OwnView) → asks_recipes asks ≡ false
         → Plain (requested asks own) (request_turn asks now message own)
-    request-plain (request.OfTables asked) now own = answer-plain asked own
-    request-plain request.GoOffline now own = control-request-plain control_in.RequestOffline own
-    request-plain request.GoOnline now own = control-request-plain control_in.RequestOnline own
-    request-plain request.Establish now own = record {
+    request-plain (request.OfRecipes asked) now own none = absurd (cc)
+    request-plain (request.OfTables asked) now own none = answer-plain asked own
+    request-plain request.GoOffline now own none = control-request-plain control_in.RequestOffline own
+    request-plain request.GoOnline now own none = control-request-plain control_in.RequestOnline own
+    request-plain request.Establish now own none = record {
       duties = abort-are (common-silent (AsksOf message) (asks-none message) Fact lasts) message;
       keeps = itself own;
     }
-    request-plain request.TransmitSpool now own = transmit-plain own
-    request-plain request.PurgeSpool now own = purge-plain own
-    request-plain (request.Trace trid dsper total group svids) now own =
+    request-plain request.TransmitSpool now own none = transmit-plain own
+    request-plain request.PurgeSpool now own none = purge-plain own
+    request-plain (request.Trace trid dsper total group svids) now own none =
         trace-plain (record { trid = trid; dsper = dsper; total = total; group = group; svids = svids }) now own
 
     pub established-plain : (now : ℕ) (own : OwnView) → Plain own (established_turn now message own)
@@ -197,14 +200,14 @@ module _
 
     -- a turn of which nothing is said, behind the primary
     pub request-keeps :
-        (asks : Request) (now : ℕ) (own : OwnView) (step : CoreStep) → AsksOf message step.next.asked
-        → Fact (so_far plan start said before step)
+        (asks : Request) (now : ℕ) (own : OwnView) (step : CoreStep) → asks_recipes asks ≡ false
+        → AsksOf message step.next.asked → Fact (so_far plan start said before step)
         → Holds plan start said (requested asks own) step.next.drawn (so_far plan start said before step)
         → Ends plan start said before (request_turn asks now message own).own
         (all_done Some (request_turn asks now message own).duties step)
-    request-keeps asks now own step it fact holds =
+    request-keeps asks now own step none it fact holds =
         plain-at plan start said before (AsksOf message) (asks-none message) Fact lasts (requested asks own)
-        (request_turn asks now message own) step (request-plain asks now own) it fact holds
+        (request_turn asks now message own) step (request-plain asks now own none) it fact holds
 
   -- ---- reports that are asked for
 

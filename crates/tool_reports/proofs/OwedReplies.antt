@@ -3,7 +3,9 @@ use Rattle.std.proofs.Common.{◌≡◌, refl, sym, ap, subst, ◌∙◌, Bool, 
 use Rattle.std.specs.Option.{option_map}
 use Rattle.std.specs.Prelude.{bytes_eq}
 use Rattle.std.proofs.lemmas.Bool.{eqb-true}
+use Rattle.gem_recipes.specs.Asking.{is_change}
 use Rattle.gem_shapes.specs.Answers.{code_item}
+use Rattle.gem_shapes.specs.declared.request.RecipesRequest.{RecipesRequest}
 use Rattle.gem_shapes.specs.declared.request.Request.{Request}
 use Rattle.gem_shapes.specs.declared.request.Request.TheVariants as request
 use Rattle.gem_shapes.specs.declared.request.TablesRequest.{TablesRequest}
@@ -22,6 +24,7 @@ use Rattle.message_end.specs.Core.{EndView, Went, noted, reply_function, reply_o
 use Rattle.message_end.specs.Core.Went.{Goes, Spent}
 use Rattle.message_end.specs.Duties.{all_done}
 use Rattle.message_end.proofs.Parts.{OnEither}
+use Rattle.equipment_tables.specs.declared.answers.Answer.{Answer as Text}
 use Rattle.equipment_tables.specs.declared.answers.Answer.TheVariants as answer
 use Rattle.equipment_tables.specs.declared.plan.EquipmentPlan.{EquipmentPlan}
 use Rattle.equipment_tables.specs.Laws.{TablesAreLookedBackFor}
@@ -30,9 +33,11 @@ use Rattle.equipment_tables.specs.Requests.{request_of}
 use Rattle.equipment_tables.specs.Setup.{accepts_request, primary_of}
 use Rattle.tool_step.specs.declared.kind.Kind.{Kind}
 use Rattle.tool_step.specs.declared.owed.Owed.{Owed}
-use Rattle.tool_step.specs.declared.owed.Owed.TheVariants.{Keep}
+use Rattle.tool_step.specs.declared.owed.Owed.TheVariants.{Answered, Keep, Recipes as OfRecipes}
 use Rattle.tool_step.specs.Messages.{keep_turn, recorded_turn, unkept_duties, unkept_turn}
-use Rattle.tool_step.specs.Own.{OwnView, turn_of, unowed, untold, with_ledger}
+use Rattle.tool_step.specs.Equipment.{served_own}
+use Rattle.tool_step.specs.Own.{OwnView, ToolTurn, owing, quiet_turn, turn_of, unowed, untold, with_ledger, with_tables}
+use Rattle.tool_step.specs.Recipes.{RecipesView, answered_by, asked_of, recipes_text, recipes_turn}
 use Rattle.tool_step.specs.Sent as sent
 use Rattle.tool_step.specs.Setup.{accepted_item, has_space_code, next_kept, next_setup, no_space}
 use Rattle.tool_step.specs.Step.{answering, owed_turn}
@@ -61,6 +66,8 @@ pub record IsAwaited (primary : Message) (asked : Option Title) (notes : List Ha
 abbrev pub IsOwed : Option Owed → Option Title → List Happening → Type 0
 IsOwed None asked notes = Unit {0}
 IsOwed (Some (Keep primary)) asked notes = IsAwaited primary asked notes
+IsOwed (Some (OfRecipes asking primary)) asked notes = IsAwaited primary asked notes
+IsOwed (Some (Answered given primary)) asked notes = IsAwaited primary asked notes
 
 -- it holds but for what is asked of an object outside, which has its request
 pub record HoldsOwing (plan : EquipmentPlan) (start : List Happening) (said : List ToolCommand) (own : OwnView)
@@ -103,6 +110,19 @@ booked-owing plan start said own ledger core notes is = record {
       (booked-stays (unowed own) ledger);
   owed = is.owed;
 }
+
+-- and once the recipes have answered
+pub served-owing :
+    (plan : EquipmentPlan) (start : List Happening) (said : List ToolCommand) (own : OwnView) (kept : RecipesView)
+    (core : EndView Kind) (notes : List Happening)
+    → HoldsOwing plan start said own core notes → HoldsOwing plan start said (served_own kept own) core notes
+served-owing plan start said own kept core notes is = record { holds = is.holds; owed = go own.owed is.owed }
+  where
+    go : (owed : Option Owed) → IsOwed owed core.asked notes → IsOwed (answered_by kept owed) core.asked notes
+    go None waits = waits
+    go (Some (Keep primary)) waits = waits
+    go (Some (OfRecipes asking primary)) waits = waits
+    go (Some (Answered given primary)) waits = waits
 
 -- ---- the list that is kept
 
@@ -297,6 +317,31 @@ module _
           })
           it tt holds
 
+  -- what is asked of the recipes waits for them
+  pub recipes-owing :
+      (asked : RecipesRequest) (message : Message) (own : OwnView) (step : CoreStep) → AsksOf message step.next.asked
+      → IsNewest message (so_far plan start said before step) → IsOther message
+      → Holds plan start said (with_tables own.tables own) step.next.drawn (so_far plan start said before step)
+      → EndsOwing (recipes_turn (asked_of asked) message own).own
+      (all_done Some (recipes_turn (asked_of asked) message own).duties step)
+  recipes-owing asked message own step it newest other holds = go (message.wait || is_change (asked_of asked))
+    where
+      none :
+          HoldsOwing plan start said (with_tables own.tables own) step.next (so_far plan start said before step)
+      none =
+          none-owing plan start said (with_tables own.tables own) step.next (so_far plan start said before step) holds
+
+      turn_by : Bool → ToolTurn
+      turn_by asks =
+          if asks then quiet_turn (owing (OfRecipes (asked_of asked) (untold message)) own) else quiet_turn own
+
+      go : (asks : Bool) → EndsOwing (turn_by asks).own (all_done Some (turn_by asks).duties step)
+      go true = record {
+        holds = none.holds;
+        owed = record { asker = message; untold_is = refl; newest = newest; asks = it; other = other };
+      }
+      go false = record { holds = none.holds; owed = none.owed }
+
   -- ---- the answer
 
   -- what waited is answered, and nothing waits any more
@@ -305,24 +350,31 @@ module _
       → Ends plan start said before (answering own step.next).own (all_done Some (answering own step.next).duties step)
   answering-keeps own step is = go own.owed is.owed
     where
+      answered :
+          (primary : Message) (text : Message → Text)
+          → IsAwaited primary step.next.asked (so_far plan start said before step)
+          → Ends plan start said before (unowed own) (all_done Some (sent.answer_duties (text primary) primary) step)
+      answered primary text tells =
+          subst
+          (λ (m : Message).
+          Ends plan start said before (unowed own) (all_done Some (sent.answer_duties (text m) m) step))
+          (sym tells.untold_is)
+          (plain-at plan start said before (AsksOf (untold tells.asker)) (asks-none (untold tells.asker))
+          (IsNewest tells.asker) (newest-lasts tells.asker) (unowed own)
+          (turn_of (unowed own) (sent.answer_duties (text (untold tells.asker)) (untold tells.asker))) step
+          (record {
+            duties =
+                (answers-of plan fits looked start said before) (untold tells.asker) (IsNewest tells.asker)
+                (newest-lasts tells.asker) (may-behind tells.asker tells.other) (text (untold tells.asker));
+            keeps = itself (unowed own);
+          })
+          tells.asks tells.newest is.holds)
+
       go : (owed : Option Owed) → IsOwed owed step.next.asked (so_far plan start said before step)
           → Ends plan start said before (owed_turn owed (unowed own)).own
           (all_done Some (owed_turn owed (unowed own)).duties step)
       go None tells = is.holds
+      go (Some (OfRecipes asking primary)) tells = is.holds
+      go (Some (Answered given primary)) tells = answered primary (λ m. recipes_text (unowed own) given) tells
       go (Some (Keep primary)) tells =
-          subst
-          (λ (m : Message).
-          Ends plan start said before (owed_turn (Some (Keep m)) (unowed own)).own
-          (all_done Some (owed_turn (Some (Keep m)) (unowed own)).duties step))
-          (sym tells.untold_is)
-          (plain-at plan start said before (AsksOf (untold tells.asker)) (asks-none (untold tells.asker))
-          (IsNewest tells.asker) (newest-lasts tells.asker) (unowed own)
-          (owed_turn (Some (Keep (untold tells.asker))) (unowed own)) step
-          (record {
-            duties =
-                (answers-of plan fits looked start said before) (untold tells.asker) (IsNewest tells.asker)
-                (newest-lasts tells.asker) (may-behind tells.asker tells.other)
-                (sent.text_of (unowed own) (accepted_item (untold tells.asker)));
-            keeps = itself (unowed own);
-          })
-          tells.asks tells.newest is.holds)
+          answered primary (λ m. sent.text_of (unowed own) (accepted_item m)) tells

@@ -31,9 +31,10 @@ use Rattle.tool_step.specs.Own.{OwnView}
 use Rattle.tool_step.specs.Disk.{standing_in, stops, works_of}
 use Rattle.tool_reports.specs.Histories.{ReportsHold, commands_behind, commands_broken, commands_met, with_command}
 use Rattle.tool_step.specs.End.{machine}
-use Rattle.tool_step.specs.Equipment.{unstarted, EquipmentView, act, begun_step, ended_step, is_marked_out, kept_step, needs_numbers, node_step, oldest_of, parts_done, reserved, restarts, settled, settled_step, settled_went, started_on, starts, went_with_file}
+use Rattle.tool_step.specs.Equipment.{unstarted, EquipmentView, act, begun_step, done_step, ended_step, is_marked_out, needs_numbers, node_step, oldest_of, parts_done, reserved, restarts, settled, settled_own, settled_went, started_on, starts, went_with_file}
 use Rattle.spool_works.specs.Found.{first_in, found_in}
-use Rattle.tool_law.proofs.Lawful.{IsGoodView, act-good, begun-good, fronts-are, kept-view-good, oldest-good, settled-view-good}
+use Rattle.spool_works.specs.DiskWorks.{fronts_of}
+use Rattle.tool_law.proofs.Lawful.{IsGoodView, act-good, begun-good, each-stop, fronts-are, kept-view-good, oldest-good, settled-view-good}
 use Rattle.tool_law.proofs.LawfulLosses.{LeavesWell, all-well}
 use Rattle.tool_step.proofs.LossCalls.{IsAtCall, at-call, losses-counted}
 use Rattle.spool_works.proofs.LossCounts.{has-call}
@@ -46,7 +47,7 @@ use Rattle.tool_step.specs.Setup.{carried_lines, found_list, set_up, setup_in}
 use Rattle.tool_step.specs.Step.{first_parts, last_parts}
 use Rattle.tool_reports.proofs.QuietReports.{Holds, count_of_reports, holds-as, setup-is}
 use Rattle.tool_reports.proofs.FoundSetups.{IsCarrying, start-carried}
-use Rattle.tool_reports.proofs.OwedReplies.{HoldsOwing, booked-owing}
+use Rattle.tool_reports.proofs.OwedReplies.{HoldsOwing, booked-owing, served-owing}
 use Rattle.tool_reports.proofs.PlainTurns.{owing_none}
 use Rattle.tool_reports.proofs.SetupStarts.{found-rests}
 use Rattle.tool_reports.proofs.QuietNotes.{AreInPlace, AreSettled, IsQuietNote, one-behind, placed-more, quiet-note}
@@ -96,8 +97,10 @@ module _ (plan : EquipmentPlan) (fits : EquipmentPlanFits plan) (looked : Tables
         (said : List ToolCommand) (before : List Happening) (went : Went EquipmentView Happening)
         → FileOwes said before went → FileOwes said before (settled_went went)
     settled-so said before (Goes step) at =
-        booked-owing plan start said step.next.node.own (carried_out step.next.node.own.ledger) step.next.node.core
-        (noted_behind step.notes before) at
+        served-owing plan start said (settled_own step.next.node.own) step.next.recipes step.next.node.core
+        (noted_behind step.notes before)
+        (booked-owing plan start said step.next.node.own (carried_out step.next.node.own.ledger) step.next.node.core
+        (noted_behind step.notes before) at)
     settled-so said before (Spent step) at = at
 
     pub odd-of : (oldest : Option Spooled) → IfSome oldest CanBeSent
@@ -139,21 +142,18 @@ module _ (plan : EquipmentPlan) (fits : EquipmentPlanFits plan) (looked : Tables
         to : List ToolCommand
         to = with_command input said
 
-        done : FileStep → FileStep
-        done step = kept_step (settled_step step)
-
         ends : (went : Went EquipmentView Happening) → FileOwes to before went
             → IsGoodView plan fits (step_in went).next
             → FileEnds to before (and_then (settled_went went) (ended_step now))
         ends (Spent step) at so = at
         ends (Goes step) at so =
-            with-file to before (done step).next
-            (after_parts Some (last_parts (oldest_of (done step).next) now) (node_step (done step)))
-            ((last-keeps plan fits looked start) to before (oldest_of (done step).next)
-            (odd-of (oldest_of (done step).next)
-            (oldest-good plan fits (done step).next.file.list
+            with-file to before (done_step step).next
+            (after_parts Some (last_parts (oldest_of (done_step step).next) now) (node_step (done_step step)))
+            ((last-keeps plan fits looked start) to before (oldest_of (done_step step).next)
+            (odd-of (oldest_of (done_step step).next)
+            (oldest-good plan fits (done_step step).next.file.list
             (kept-view-good plan fits (settled step.next) (settled-view-good plan fits step.next so)).list)) now
-            (node_step (done step)) (settled-so to before (Goes step) at))
+            (node_step (done_step step)) (settled-so to before (Goes step) at))
 
     -- ---- up to a call of the disk
 
@@ -168,17 +168,8 @@ module _ (plan : EquipmentPlan) (fits : EquipmentPlanFits plan) (looked : Tables
         (front : List Happening) → Holds plan start said s.node.own s.node.core.drawn before
         → Has (stops s input now) front
         → AreInPlace plan (noted_behind front before)
-    front-so said before input now s front holds has = record {
-      reported =
-          reported-before plan first.rest (noted_behind front before)
-          (subst (Reported plan)
-          (ap (λ (ns : List Happening). noted_behind ns before) first.whole ∙ behind-both front first.rest before)
-          all.reported);
-      none_due =
-          front-due plan before (works_of s input now) [] notes front holds.settled.placed.none_due all.none_due has;
-      none_left =
-          front-left before (works_of s input now) [] notes front holds.settled.placed.none_left all.none_left has;
-    }
+    front-so said before input now s front holds has =
+        each-stop (λ ns. AreInPlace plan (noted_behind ns before)) s input now at-work all front has
       where
         notes : List Happening
         notes = (step_in (begun_step s input now)).notes
@@ -188,8 +179,23 @@ module _ (plan : EquipmentPlan) (fits : EquipmentPlanFits plan) (looked : Tables
             (settled-of (with_command input said) before (begun_step s input now)
             (begun-keeps said before input now s holds)).placed
 
-        first : IsFront front notes
-        first = fronts-are (works_of s input now) [] notes front has
+        at-work : (ns : List Happening) → Has (fronts_of [] (works_of s input now) notes) ns
+            → AreInPlace plan (noted_behind ns before)
+        at-work ns at =
+            let first : IsFront ns notes = fronts-are (works_of s input now) [] notes ns at in
+            record {
+              reported =
+                  reported-before plan first.rest (noted_behind ns before)
+                  (subst (Reported plan)
+                  (ap (λ (all : List Happening). noted_behind all before) first.whole
+                  ∙ behind-both ns first.rest before)
+                  all.reported);
+              none_due =
+                  front-due plan before (works_of s input now) [] notes ns holds.settled.placed.none_due all.none_due
+                  at;
+              none_left =
+                  front-left before (works_of s input now) [] notes ns holds.settled.placed.none_left all.none_left at;
+            }
 
   -- ---- over all starts
 

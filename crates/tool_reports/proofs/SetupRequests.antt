@@ -79,6 +79,7 @@ module _ (plan : EquipmentPlan) (held : Option (List Entry)) (notes : List Happe
             ∙ ap (λ list. cond (accepts_primary (tables_in plan notes) (primary_of message)) (with_kept message list)
             None)
             setup
+        by (request.OfRecipes asked) is = none (list_in held notes) _ (accepted (Some (request.OfRecipes asked)) is)
         by request.Establish is = none (list_in held notes) _ (accepted (Some request.Establish) is)
         by request.GoOffline is = none (list_in held notes) _ (accepted (Some request.GoOffline) is)
         by request.GoOnline is = none (list_in held notes) _ (accepted (Some request.GoOnline) is)

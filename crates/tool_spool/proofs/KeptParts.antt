@@ -1,5 +1,5 @@
 -- That each part of a step keeps the spool.
-use Rattle.std.proofs.Common.{◌≡◌, refl, sym, ap, subst, ◌∙◌, inl, ◌==◌, ◌%◌, ◌||◌, not, Bool, true, false, ℕ, zero, suc, List, [], ◌∷◌, ◌++◌, replicate, Option, Some, None, if◌then◌else◌}
+use Rattle.std.proofs.Common.{◌≡◌, refl, sym, ap, subst, ◌∙◌, ◌==◌, ◌%◌, ◌||◌, not, Bool, true, false, ℕ, zero, suc, List, [], ◌∷◌, ◌++◌, replicate, Option, Some, None, if◌then◌else◌}
 use Rattle.std.specs.List.{find}
 use Rattle.std.specs.Option.{option_map}
 use Rattle.std.specs.Prelude.{IfSome, slice_get}
@@ -39,8 +39,6 @@ use Rattle.equipment_tables.specs.Laws.{TablesAreLookedBackFor}
 use Rattle.equipment_tables.specs.Past.{tables_at}
 use Rattle.equipment_tables.specs.Plan.{EquipmentPlanFits}
 use Rattle.tool_step.specs.declared.kind.Kind.{Kind}
-use Rattle.tool_step.specs.declared.owed.Owed.{Owed}
-use Rattle.tool_step.specs.declared.owed.Owed.TheVariants.{Keep}
 use Rattle.spool_works.specs.Found.{spooled_of}
 use Rattle.tool_reports.specs.Histories.{with_command}
 use Rattle.tool_step.specs.Own.{OwnView, ToolPart, ToolTurn, is_communicating, quiet_turn, turn_of, unowed}
@@ -49,7 +47,7 @@ use Rattle.tool_step.specs.Sampling.{made_part, sample_parts, sampling}
 use Rattle.tool_step.specs.Sent as sent
 use Rattle.tool_step.specs.Spooling.{end_of_spooling, unload_part}
 use Rattle.tool_step.specs.States as states
-use Rattle.tool_step.specs.Step.{answering, begun, beginning, character, delay_timer, failed_turn, first_parts, flow_turn, input_part, is_spent, last_parts, late_parts, line_timer, long_turn, offer, owed_turn, took_turn}
+use Rattle.tool_step.specs.Step.{answering, begun, beginning, character, delay_timer, failed_turn, first_parts, flow_turn, input_part, is_spent, last_parts, late_parts, line_timer, long_turn, offer, took_turn}
 use Rattle.tool_step.specs.Tool.{told_turn}
 use Rattle.tool_spool.proofs.CalmSamples.{made-calm, sampling-calm}
 use Rattle.tool_spool.proofs.CalmParts.{IsCalmTurn, closes-calm, comms-calm, error-turn-calm, errors-calm, like-as, likes, offer-calm}
@@ -68,11 +66,11 @@ use Rattle.tool_law.proofs.CoreSteps.{CoreStep}
 use Rattle.tool_spool.proofs.SpoolCommands.{told-keeps}
 use Rattle.tool_spool.proofs.SpoolMessages.{message-keeps}
 use Rattle.tool_spool.proofs.SpoolTurns.{HoldsAt, IsRight, ShelvesAt, TurnEnds, calm-at, calm-turn, leaving-keeps, lost-keeps, so_far}
-use Rattle.tool_spool.proofs.KeptSetups.{ShelvesOwing, TurnOwes, answering-calm, turn-owes}
+use Rattle.tool_spool.proofs.KeptSetups.{ShelvesOwing, TurnOwes, answering-calm, turn-owes, unkept}
 use Rattle.tool_spool.proofs.UnloadOpen.{HasHeader}
 use Rattle.tool_spool.proofs.SpoolUnloads.{part-keeps}
 use Rattle.tool_spool.proofs.TakenTurns.{rest-keeps}
-use Rattle.tool_spool.proofs.LastWorks.{both-either, whole-header, error-stays, timeout-owes, works_of, unload-works, rested-works}
+use Rattle.tool_spool.proofs.LastWorks.{answering-works, both-either, whole-header, error-stays, timeout-owes, works_of, unload-works, rested-works}
 
 module _
     (plan : EquipmentPlan) (fits : EquipmentPlanFits plan) (looked : TablesAreLookedBackFor)
@@ -271,15 +269,17 @@ module _
         → At own (tells Some (held_header step.next.line.held) happened now (calls (LineCall.Take byte now) step))
         → Owes (took_turn now (took_by step.next happened) own e)
         (tells Some (held_header step.next.line.held) happened now (calls (LineCall.Take byte now) step))
-    told-turns now byte event.Nothing own e step same holds = inl holds.shelves
-    told-turns now byte event.Sent own e step same holds = inl holds.shelves
-    told-turns now byte (event.Refused cause) own e step same holds = inl holds.shelves
+    told-turns now byte event.Nothing own e step same holds =
+        unkept plan slots list base before own _ _ holds.shelves
+    told-turns now byte event.Sent own e step same holds = unkept plan slots list base before own _ _ holds.shelves
+    told-turns now byte (event.Refused cause) own e step same holds =
+        unkept plan slots list base before own _ _ holds.shelves
     told-turns now byte event.Failed own e step same holds = failed (held_header step.next.line.held) holds
       where
         failed : (header : Option Header)
             → At own (calls (LineCall.Take byte now) step)
             → Owes (took_turn now (failed_as header) own e) (calls (LineCall.Take byte now) step)
-        failed None at = inl at.shelves
+        failed None at = unkept plan slots list base before own _ _ at.shelves
         failed (Some header) at =
             turn-owes plan slots list base before (failed_turn now (Some header) own e)
             (calls (LineCall.Take byte now) step)
@@ -315,7 +315,8 @@ module _
     input-part : (input : Input ToolCommand) (now : ℕ) (step : NodeStep) → At step.next.own (core_step step)
         → Owes (input_part input now step.next.own step.next.core) (core_step step)
     input-part (Char byte) now step holds = char-part byte now step holds
-    input-part Time now step holds = inl holds.shelves
+    input-part Time now step holds =
+        unkept plan slots list base before step.next.own step.next.core (noted_behind step.notes before) holds.shelves
     input-part (Told command) now step holds =
         turn-owes plan slots list base before (told_turn command now step.next.own step.next.core) (core_step step)
         (told-keeps plan slots list base before command now step.next.own step.next.core (core_step step) fits looked
@@ -513,13 +514,6 @@ module _
         both-either (Both said) OwesNone BothRight OwesNone
         (after_turn Some (part step.next.own step.next.core) step) ends
         (works-behind (part step.next.own step.next.core) step none)
-
-    answering-works : (own : OwnView) (e : EndView Kind) → works_of (answering own e) ≡ own.ledger.works
-    answering-works own e = go own.owed
-      where
-        go : (owed : Option Owed) → works_of (owed_turn owed (unowed own)) ≡ own.ledger.works
-        go None = refl
-        go (Some (Keep primary)) = refl
 
     answered-both :
         (said : List ToolCommand) (step : NodeStep) → SettledOwing said step

@@ -1,6 +1,8 @@
 -- Changes of the setup that are kept, where the spool is spoken of: their two lines stand behind all lines of the list.
-use Rattle.std.proofs.Common.{◌≡◌, refl, sym, ap, subst, ◌∙◌, inl, inr, ◌⊎◌, List, [], ◌∷◌, ◌++◌, Bool, true, false, ℕ, Option, Some, None}
+use Rattle.std.proofs.Common.{◌≡◌, refl, sym, ap, subst, ◌∙◌, inl, inr, ◌⊎◌, List, [], ◌∷◌, ◌++◌, Bool, true, false, ℕ, Option, Some, None, ◌||◌, if◌then◌else◌}
 use Rattle.gem_shapes.specs.Answers.{code_item}
+use Rattle.gem_recipes.specs.declared.asking.RecipesAsked.{RecipesAsked}
+use Rattle.gem_recipes.specs.Asking.{is_change}
 use Rattle.message_flow.specs.declared.message.Message.{Message}
 use Rattle.setup_store.specs.Entries.{Entry, bytes_of, has_room, is_kept}
 use Rattle.trace_log.specs.Log.{Happening}
@@ -15,12 +17,13 @@ use Rattle.spool_file.specs.Slot.{Message as Put}
 use Rattle.equipment_tables.specs.declared.plan.EquipmentPlan.{EquipmentPlan}
 use Rattle.tool_step.specs.declared.kind.Kind.{Kind}
 use Rattle.tool_step.specs.declared.owed.Owed.{Owed}
-use Rattle.tool_step.specs.declared.owed.Owed.TheVariants.{Keep}
+use Rattle.tool_step.specs.declared.owed.Owed.TheVariants.{Answered, Keep, Recipes as OfRecipes}
 use Rattle.tool_step.specs.Equipment.{setup_lines}
 use Rattle.tool_step.specs.Messages.{unkept_duties, unkept_turn}
-use Rattle.tool_step.specs.Own.{OwnView, ToolTurn, turn_of, unowed, untold}
+use Rattle.tool_step.specs.Own.{OwnView, ToolTurn, owing, quiet_turn, turn_of, unowed, untold}
+use Rattle.tool_step.specs.Recipes.{recipes_text, recipes_turn}
 use Rattle.tool_step.specs.Sent as sent
-use Rattle.tool_step.specs.Setup.{accepted_item, has_space_code, no_space}
+use Rattle.tool_step.specs.Setup.{accepted_item, bytes_to_keep, has_space_code, no_space, to_keep}
 use Rattle.tool_step.specs.Step.{answering, owed_turn}
 use Rattle.tool_law.proofs.CommandWalks.{AllAre, abort-are}
 use Rattle.tool_law.proofs.CoreSteps.{CoreStep}
@@ -57,6 +60,11 @@ answering-calm own e = go own.owed
   where
     go : (owed : Option Owed) → IsCalmTurn (unowed own) (owed_turn owed (unowed own))
     go None = nothing-of (unowed own) (unowed own) (likes (unowed own))
+    go (Some (OfRecipes asked primary)) = nothing-of (unowed own) (unowed own) (likes (unowed own))
+    go (Some (Answered given primary)) = record {
+      duties = answers-calm (recipes_text (unowed own) given) primary;
+      keeps = likes (unowed own);
+    }
     go (Some (Keep primary)) = record {
       duties = answers-calm (sent.text_of (unowed own) (accepted_item primary)) primary;
       keeps = likes (unowed own);
@@ -100,8 +108,34 @@ module _ (plan : EquipmentPlan) (slots : ℕ) (list : List Put) (base before : L
     pub shelves : Shelves plan slots list base before (unowed own) core earlier
     pub kept : IsToKeep own message
 
+  -- or nothing is to be kept in it, whatever is asked
+  pub record ShelvesUnkept (own : OwnView) (core : EndView Kind) (notes : List Happening) : Type 0 where
+    pub shelves : Shelves plan slots list base before (unowed own) core notes
+    pub none : to_keep own ≡ None
+
   abbrev pub ShelvesOwing : OwnView → EndView Kind → List Happening → Type 0
-  ShelvesOwing own core notes = Shelves plan slots list base before own core notes ⊎ ShelvesKept own core notes
+  ShelvesOwing own core notes = ShelvesUnkept own core notes ⊎ ShelvesKept own core notes
+
+  -- where nothing is asked any more
+  pub unowed-shelves : (own : OwnView) (core : EndView Kind) (notes : List Happening)
+      → Shelves plan slots list base before own core notes → Shelves plan slots list base before (unowed own) core notes
+  unowed-shelves own core notes holds = record {
+    is = holds.is;
+    all = holds.all;
+    shelved = holds.shelved;
+    drawn = holds.drawn;
+    asks = holds.asks;
+    under_way = holds.under_way;
+    reports = holds.reports;
+    owes = refl;
+  }
+
+  pub unkept : (own : OwnView) (core : EndView Kind) (notes : List Happening)
+      → Shelves plan slots list base before own core notes → ShelvesOwing own core notes
+  unkept own core notes holds = inl (record {
+    shelves = unowed-shelves own core notes holds;
+    none = ap (λ (owed : Option Owed). bytes_to_keep owed own.setup) holds.owes;
+  })
 
   abbrev pub TurnOwes : ToolTurn → CoreStep → Type 0
   TurnOwes turn step =
@@ -117,21 +151,24 @@ module _ (plan : EquipmentPlan) (slots : ℕ) (list : List Put) (base before : L
       (λ (next : CoreStep). IsSpentAt plan slots list base before turn.own.ledger (noted_behind next.notes before))
       (λ (next : CoreStep). ShelvesOwing turn.own next.next (noted_behind next.notes before))
       (λ (next : CoreStep). IsSpentAt plan slots list base before turn.own.ledger (noted_behind next.notes before))
-      (all_done Some turn.duties step) ends (λ next at. inl at) (λ next at. at)
+      (all_done Some turn.duties step) ends
+      (λ next at. unkept turn.own next.next (noted_behind next.notes before) at) (λ next at. at)
 
-  -- where nothing is asked any more
-  pub unowed-shelves : (own : OwnView) (core : EndView Kind) (notes : List Happening)
-      → Shelves plan slots list base before own core notes → Shelves plan slots list base before (unowed own) core notes
-  unowed-shelves own core notes holds = record {
-    is = holds.is;
-    all = holds.all;
-    shelved = holds.shelved;
-    drawn = holds.drawn;
-    asks = holds.asks;
-    under_way = holds.under_way;
-    reports = holds.reports;
-    owes = refl;
-  }
+  -- what is asked of the recipes waits for them
+  pub recipes-owe :
+      (asked : RecipesAsked) (message : Message) (own : OwnView) (step : CoreStep)
+      → Shelves plan slots list base before own step.next (noted_behind step.notes before)
+      → TurnOwes (recipes_turn asked message own) step
+  recipes-owe asked message own step holds = go (message.wait || is_change asked)
+    where
+      notes : List Happening
+      notes = noted_behind step.notes before
+
+      go : (asks : Bool)
+          → TurnOwes
+          (if asks then quiet_turn (owing (OfRecipes asked (untold message)) own) else quiet_turn own) step
+      go true = inl (record { shelves = unowed-shelves own step.next notes holds; none = refl })
+      go false = unkept own step.next notes holds
 
   -- behind the works, which leave nothing owed, any note that says nothing of the spool leaves it as it is
   pub over-note :

@@ -43,7 +43,7 @@ use Rattle.tool_reports.specs.Histories.{commands_met, with_command}
 use Rattle.tool_step.proofs.LossCalls.{AtEach, IsAtCall, at-call, losses-counted}
 use Rattle.spool_works.proofs.LossCounts.{has-call}
 use Rattle.tool_step.specs.Losses.{losses}
-use Rattle.tool_law.proofs.Lawful.{IsGoodView, begun-stood, fronts-are}
+use Rattle.tool_law.proofs.Lawful.{IsGoodView, begun-stood, each-stop, stopped-front}
 use Rattle.tool_spool.proofs.FromStarts.{KeepsOn, begins-course, kept-before, kept-empty, kept-from, left-in-steps}
 use Rattle.tool_spool.proofs.FromStarts.{room-used, some-behind, some-kept}
 use Rattle.tool_spool.proofs.UsedRoom.{fronts-used}
@@ -347,9 +347,7 @@ module _ (plan : EquipmentPlan) (fits : EquipmentPlanFits plan) (looked : Tables
         (lost-so start said notes input now s holds good so).0)
       where
         first : IsFront loss.front (step_in (begun_step s input now)).notes
-        first =
-            fronts-are (step_works s input now) [] (step_in (begun_step s input now)).notes loss.front
-            ((losses-counted s input now).1 loss has)
+        first = stopped-front s input now loss.front ((losses-counted s input now).1 loss has)
 
     -- no place is left there that was made for a put
     used-at-call :
@@ -358,11 +356,17 @@ module _ (plan : EquipmentPlan) (fits : EquipmentPlanFits plan) (looked : Tables
         → Holds plan start said s.node.own s.node.core.drawn notes → IsGoodView plan fits s → IsSpoolSo s notes
         → IsRoomUsed (noted_behind loss.front notes)
     used-at-call input now start said s notes loss has holds good so =
-        fronts-used notes (step_works s input now) [] (step_in (begun_step s input now)).notes loss.front
-        so.shelves.shelved.closed
-        ((begun-so plan fits looked start slots) (with_command input said) notes (begun_step s input now)
-        ((begun-both plan fits looked start slots) said notes input now s holds so.shelves)).closed
+        each-stop (λ ns. IsRoomUsed (noted_behind ns notes)) s input now
+        (λ ns at.
+        fronts-used notes (step_works s input now) [] (step_in (begun_step s input now)).notes ns
+        so.shelves.shelved.closed begun at)
+        begun loss.front
         ((losses-counted s input now).1 loss has)
+      where
+        begun : IsRoomUsed (noted_behind (step_in (begun_step s input now)).notes notes)
+        begun =
+            ((begun-so plan fits looked start slots) (with_command input said) notes (begun_step s input now)
+            ((begun-both plan fits looked start slots) said notes input now s holds so.shelves)).closed
 
     filled-so :
         (input : Input ToolCommand) (now call : ℕ) (start : List Happening) (said : List ToolCommand)

@@ -1,5 +1,5 @@
 -- That a whole step keeps the spool.
-use Rattle.std.proofs.Common.{◌≡◌, refl, sym, ap, subst, ◌∙◌, ◌+◌, Bool, true, false, ℕ, List, [], ◌∷◌, ◌++◌, append-nil, Option, Some, None, inl, inr, if◌then◌else◌}
+use Rattle.std.proofs.Common.{◌≡◌, refl, sym, ap, subst, ◌∙◌, ◌+◌, Bool, true, false, ℕ, List, [], ◌∷◌, ◌++◌, append-nil, Option, Some, inl, inr, if◌then◌else◌}
 use Rattle.std.specs.Option.{option_map, option_map_or}
 use Rattle.setup_store.specs.Entries.{Entry, bytes_of}
 use Rattle.spool_file.specs.File.{SpoolFile}
@@ -23,21 +23,21 @@ use Rattle.equipment_tables.specs.declared.plan.EquipmentPlan.{EquipmentPlan}
 use Rattle.equipment_tables.specs.Laws.{TablesAreLookedBackFor}
 use Rattle.equipment_tables.specs.Plan.{EquipmentPlanFits}
 use Rattle.tool_step.specs.declared.kind.Kind.{Kind}
-use Rattle.tool_step.specs.Equipment.{EquipmentView, act, begun_step, ended_step, is_marked_out, kept_step, needs_numbers, node_step, oldest_of, parts_done, reserved, settled, settled_file, settled_list, settled_own, settled_step, settled_went, went_with_file}
+use Rattle.tool_step.specs.Equipment.{EquipmentView, act, begun_step, done_step, ended_step, is_marked_out, needs_numbers, node_step, oldest_of, parts_done, reserved, settled, settled_file, settled_list, settled_own, settled_went, went_with_file}
 use Rattle.spool_works.specs.Found.{found_in}
 use Rattle.tool_reports.specs.Histories.{with_command}
 use Rattle.tool_law.proofs.Lawful.{IsGoodView, begun-good, kept-view-good, oldest-good, settled-view-good}
 use Rattle.tool_spool.proofs.Interrupted.{IsTail, WhereGoes}
-use Rattle.tool_spool.proofs.KeptSetups.{ShelvesOwing, kept-on, over-note, unowed-shelves}
+use Rattle.tool_spool.proofs.KeptSetups.{ShelvesOwing, kept-on, over-note}
 use Rattle.tool_step.specs.Disk.{keep_works}
 use Rattle.tool_step.specs.declared.owed.Owed.{Owed}
 use Rattle.tool_step.specs.Own.{OwnView, unowed}
-use Rattle.tool_step.specs.Setup.{bytes_to_keep, to_keep}
+use Rattle.tool_step.specs.Setup.{bytes_to_keep}
 use Rattle.tool_step.proofs.StepFiles.{kept-same, settled-list-is}
 use Rattle.tool_spool.specs.InPairs.{AreInPairs, changes_in}
 use Rattle.tool_spool.specs.SpoolKept.{policy_of}
 use Rattle.tool_step.specs.Step.{begun, first_parts, last_parts}
-use Rattle.tool_reports.proofs.OwedReplies.{HoldsOwing, booked-owing}
+use Rattle.tool_reports.proofs.OwedReplies.{HoldsOwing, booked-owing, served-owing}
 use Rattle.tool_reports.proofs.QuietReports.{Holds}
 use Rattle.tool_spool.specs.MadeRoom.{IsRoomUsed}
 use Rattle.tool_spool.proofs.FromStarts.{KeepsOn}
@@ -130,16 +130,14 @@ module _
     owes = holds.owes;
   }
 
-  -- and a setup is kept behind them, which changes nothing of the list
-  abbrev done : FileStep → FileStep
-  done step = kept_step (settled_step step)
-
+  -- and a setup is kept behind them, and the recipes are asked, which changes nothing of the list
   settled-both :
       (said : List ToolCommand) (base before : List Happening) (step : FileStep) → IsBothOwing said base before step
-      → IsSettledOwing said (noted_behind step.notes before) before (done step)
+      → IsSettledOwing said (noted_behind step.notes before) before (done_step step)
   settled-both said base before step both = (
     (
-      booked-owing plan start said own (carried_out own.ledger) core notes both.0,
+      served-owing plan start said (settled_own own) step.next.recipes core notes
+          (booked-owing plan start said own (carried_out own.ledger) core notes both.0),
       subst (λ (list : List Put). Shelves plan slots list notes before (unowed (settled_own own)) core notes)
           (sym
           (kept-same (λ (one : SpoolFile). one.list) (settled_own own) (settled_file own.ledger file)
@@ -163,9 +161,7 @@ module _
 
       shelves : ShelvesOwing plan slots file.list base before own core notes
           → Shelves plan slots (settled_file own.ledger file).list notes before (unowed (settled_own own)) core notes
-      shelves (inl holds) =
-          unowed-shelves plan slots (settled_file own.ledger file).list notes before (settled_own own) core notes
-          (settled-shelves base before notes own core file holds)
+      shelves (inl unkept) = settled-shelves base before notes (unowed own) core file unkept.shelves
       shelves (inr kept) =
           subst
           (λ (ns : List Happening).
@@ -256,14 +252,6 @@ module _
         ((shelf_of (noted_behind (step_in went).notes before)).stands
         ≡ found_in (settled_list (step_in went).next.node.own.ledger (step_in went).next.file.list))
 
-  -- nothing is kept where nothing is asked
-  kept-none : (own : OwnView) → own.owed ≡ None
-      → option_map_or (λ (bytes : List ℕ). Keep bytes ∷ []) (to_keep own) [] ≡ []
-  kept-none own none =
-      ap
-      (λ (owed : Option Owed).
-      option_map_or (λ (bytes : List ℕ). Keep bytes ∷ []) (bytes_to_keep owed own.setup) []) none
-
   -- what was told of the works are their lines, none of which is of a setup
   same-told : (v : LedgerView) (list : List Put) (before notes : List Happening) → AreTold v list before notes
       → (lines : AreLines v list before notes) → AreStill lines.lines
@@ -293,7 +281,8 @@ module _
 
       go : ShelvesOwing plan slots list before before step.next.node.own step.next.node.core notes
           → IsBegunSo before (Goes step)
-      go (inl holds) =
+      go (inl unkept) =
+          let holds = unkept.shelves in
           let spent = spent-at plan slots list before before v notes holds.is holds.all holds.shelved in
           record {
             kept = spent.kept;
@@ -303,7 +292,10 @@ module _
               noted = spent.lines.noted ∙ ap (λ (ls : List Happening). noted_behind ls before)
                   (sym (append-nil spent.lines.lines));
               walks = spent.lines.walks;
-              is_tail = inl (refl, kept-none (step.next.node.own) holds.owes);
+              is_tail = inl (
+                refl,
+                ap (λ (bytes : Option (List ℕ)). option_map_or (λ (all : List ℕ). Keep all ∷ []) bytes []) unkept.none,
+              );
               still = same-told v list before notes spent.told spent.lines;
             };
             pairs = told-pairs v list before step.notes spent.told;
@@ -405,16 +397,17 @@ module _
       → IsBothOwing said before before step
       → IsGoodView plan fits step.next
       → OnEither (IsSettled said (noted_behind step.notes before) before)
-      (IsRightRest (noted_behind step.notes before) before) (ended_step now (done step))
+      (IsRightRest (noted_behind step.notes before) before) (ended_step now (done_step step))
   last-settled said before now step both good =
       let base = noted_behind step.notes before in
-      with-settled said base before (done step).next
-      (after_parts Some (last_parts (oldest_of (done step).next) now) (node_step (done step)))
-      ((last-both plan fits looked start slots) (done step).next.file.list base before said (oldest_of (done step).next)
-      (odd-of plan fits looked start (oldest_of (done step).next)
-      (oldest-good plan fits (done step).next.file.list
+      with-settled said base before (done_step step).next
+      (after_parts Some (last_parts (oldest_of (done_step step).next) now) (node_step (done_step step)))
+      ((last-both plan fits looked start slots) (done_step step).next.file.list base before said
+      (oldest_of (done_step step).next)
+      (odd-of plan fits looked start (oldest_of (done_step step).next)
+      (oldest-good plan fits (done_step step).next.file.list
       (kept-view-good plan fits (settled step.next) (settled-view-good plan fits step.next good)).list)) refl now
-      (node_step (done step)) (settled-both said before before step both))
+      (node_step (done_step step)) (settled-both said before before step both))
 
   pub step-both :
       (said : List ToolCommand) (before : List Happening) (input : Input ToolCommand) (now : ℕ) (s : EquipmentView)
@@ -436,7 +429,7 @@ module _
       ends (Goes step) at so =
           let base = noted_behind step.notes before in
           either-less (IsSettled to base before) (IsRightRest base before) (IsDone to before) (IsKeptFile before)
-          (ended_step now (done step)) (last-settled to before now step at so)
+          (ended_step now (done_step step)) (last-settled to before now step at so)
           (λ last so. record { base = base; both = so.0; none = so.1 }) (λ last so. so.0.1.kept)
 
   -- what is noted behind the works, where nothing is owed, names no change of the list
@@ -472,7 +465,7 @@ module _
           → changes_in (step_in (and_then (settled_went went) (ended_step now))).notes
           ≡ changes_in (step_in went).notes
       ends (Spent step) at so = refl
-      ends (Goes step) at so = behind (ended_step now (done step)) (last-settled to before now step at so)
+      ends (Goes step) at so = behind (ended_step now (done_step step)) (last-settled to before now step at so)
         where
           base : List Happening
           base = noted_behind step.notes before
@@ -495,9 +488,9 @@ module _
   pub ends-still :
       (said : List ToolCommand) (before : List Happening) (now : ℕ) (step last : FileStep)
       → IsBothOwing said before before step → IsGoodView plan fits step.next
-      → ended_step now (kept_step (settled_step step)) ≡ Goes last → EndsStill before step last
+      → ended_step now (done_step step) ≡ Goes last → EndsStill before step last
   ends-still said before now step last both good is =
-      go (ended_step now (done step)) (last-settled said before now step both good) is
+      go (ended_step now (done_step step)) (last-settled said before now step both good) is
     where
       goes-same : (one two : FileStep) → Goes one ≡ Goes two → one ≡ two
       goes-same one two same = cc

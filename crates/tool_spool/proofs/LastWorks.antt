@@ -30,7 +30,10 @@ use Rattle.equipment_tables.specs.declared.answers.Answer.TheVariants as answer
 use Rattle.equipment_tables.specs.Tables.{delay_of, most_transmitted}
 use Rattle.tool_step.specs.declared.kind.Kind.{Kind}
 use Rattle.tool_step.specs.declared.kind.Kind.TheVariants as kind
-use Rattle.tool_step.specs.Own.{OwnView, ToolTurn, is_communicating, is_communicating_in, quiet_turn, with_ledger}
+use Rattle.tool_step.specs.declared.owed.Owed.{Owed}
+use Rattle.tool_step.specs.declared.owed.Owed.TheVariants.{Answered, Keep, Recipes}
+use Rattle.tool_step.specs.Own.{OwnView, ToolTurn, is_communicating, is_communicating_in, quiet_turn, unowed, with_ledger}
+use Rattle.tool_step.specs.Step.{answering, owed_turn}
 use Rattle.tool_step.specs.Replies.{loss_turn, timeout_turn}
 use Rattle.tool_step.specs.Sent as sent
 use Rattle.tool_step.specs.Spooling.{dataid_in, end_of_spooling, inquiry_turn, needs_grant, sent_turn, stopped_turn, taking_turn, tried_turn, unload_part, unloaded_own, unloading_turn}
@@ -198,6 +201,15 @@ timeout-owes now (Some primary) own e is = loss-owes now primary.1 primary.0.sys
 
 abbrev pub works_of : ToolTurn → List Work
 works_of turn = turn.own.ledger.works
+
+pub answering-works : (own : OwnView) (e : EndView Kind) → works_of (answering own e) ≡ own.ledger.works
+answering-works own e = go own.owed
+  where
+    go : (owed : Option Owed) → works_of (owed_turn owed (unowed own)) ≡ own.ledger.works
+    go None = refl
+    go (Some (Keep primary)) = refl
+    go (Some (Recipes asked primary)) = refl
+    go (Some (Answered given primary)) = refl
 
 ended-works : (crowded : Bool) (own : OwnView)
     → (if crowded then unloaded_own own else own).ledger.works ≡ own.ledger.works

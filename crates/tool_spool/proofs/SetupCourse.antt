@@ -33,13 +33,13 @@ use Rattle.equipment_tables.specs.Laws.{TablesAreLookedBackFor}
 use Rattle.equipment_tables.specs.Plan.{EquipmentPlanFits}
 use Rattle.tool_step.specs.Disk.{standing_in, works_behind, works_of}
 use Rattle.tool_step.specs.End.{machine}
-use Rattle.tool_step.specs.Equipment.{EquipmentView, act, begun_step, ended_step, is_marked_out, kept_step, needs_numbers, restarts, settled, settled_file, settled_step, settled_went, started_on, starts, unstarted}
+use Rattle.tool_step.specs.Equipment.{EquipmentView, act, begun_step, done_step, ended_step, is_marked_out, needs_numbers, restarts, settled, settled_file, settled_went, started_on, starts, unstarted}
 use Rattle.tool_step.specs.Losses.{losses}
 use Rattle.tool_step.specs.Own.{OwnView}
 use Rattle.tool_step.specs.Setup.{list_of, setup_in, to_keep}
 use Rattle.tool_step.proofs.LossCalls.{AtEach, IsAtCall, at-call, losses-counted}
 use Rattle.tool_step.proofs.StepFiles.{begun-file, ended-file}
-use Rattle.tool_law.proofs.Lawful.{IsGoodView, begun-good, fronts-are}
+use Rattle.tool_law.proofs.Lawful.{IsGoodView, begun-good, stopped-front}
 use Rattle.tool_law.proofs.WorkLines.{same-lines}
 use Rattle.tool_reports.specs.Histories.{commands_met, with_command}
 use Rattle.tool_reports.proofs.OwedReplies.{HoldsOwing}
@@ -230,7 +230,7 @@ module _ (plan : EquipmentPlan) (fits : EquipmentPlanFits plan) (looked : Tables
             ∙ behind-both loss.front front.rest notes) begun-kept.0)
           where
             front : IsFront loss.front first
-            front = fronts-are (works_of s input now) [] first loss.front ((losses-counted s input now).1 loss has)
+            front = stopped-front s input now loss.front ((losses-counted s input now).1 loss has)
 
         filled-so : (found : Option (Loss EquipmentView)) (call : ℕ) → call_of call (losses s input now) ≡ found
             → IsCourseSet (filled_at s notes found)
@@ -261,7 +261,7 @@ module _ (plan : EquipmentPlan) (fits : EquipmentPlanFits plan) (looked : Tables
 
         -- behind its works the file tells the setup that is kept by then
         file-kept : (step : Step EquipmentView Happening) → begun ≡ Goes step
-            → setup_in (kept_step (settled_step step)).next.file ≡ step.next.node.own.setup
+            → setup_in (done_step step).next.file ≡ step.next.node.own.setup
         file-kept step is = go tail rest
           where
             own : OwnView
@@ -305,7 +305,7 @@ module _ (plan : EquipmentPlan) (fits : EquipmentPlanFits plan) (looked : Tables
 
             with-bytes : (bytes : Option (List ℕ)) → to_keep own ≡ bytes
                 → setup_in (option_map_or (λ (all : List ℕ). with_kept all file) bytes file) ≡ own.setup
-                → setup_in (kept_step (settled_step step)).next.file ≡ own.setup
+                → setup_in (done_step step).next.file ≡ own.setup
             with-bytes bytes same is =
                 subst
                 (λ (found : Option (List ℕ)).
@@ -313,7 +313,7 @@ module _ (plan : EquipmentPlan) (fits : EquipmentPlanFits plan) (looked : Tables
                 (sym same) is
 
             go : IsTail slots notes (Goes step) lines.tail → Rests plan held own.setup (noted_behind step.notes notes)
-                → setup_in (kept_step (settled_step step)).next.file ≡ own.setup
+                → setup_in (done_step step).next.file ≡ own.setup
             go (inl (no_tail, no_works)) at =
                 with-bytes None (none-to-keep (to_keep own) no_works)
                 (stood ∙ sym lines-list ∙ sym (ap (list_in held) (parted ∙ ap behind-lines no_tail)) ∙ at.list_is)
@@ -347,7 +347,7 @@ module _ (plan : EquipmentPlan) (fits : EquipmentPlanFits plan) (looked : Tables
                 ∙ sym (ap (list_in held) still.noted)
                 ∙ at.list_is
               where
-                file_is : last.next.file ≡ (kept_step (settled_step step)).next.file
+                file_is : last.next.file ≡ (done_step step).next.file
                 file_is =
                     ap (λ (went : Went EquipmentView Happening). (step_in went).next.file) (sym same)
                     ∙ ended-file (Goes step) now

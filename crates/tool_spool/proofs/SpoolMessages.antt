@@ -7,7 +7,7 @@ use Rattle.std.specs.Option.{option_map}
 use Rattle.std.specs.Prelude.{is_some, ◌||◌}
 use Rattle.std.specs.Bool.{beq}
 use Rattle.block_codec.specs.declared.header.Header.{Header}
-use Rattle.gem_shapes.specs.Primaries.{is_known, is_known_stream}
+use Rattle.gem_shapes.specs.Primaries.{is_known}
 use Rattle.gem_shapes.specs.declared.request.Request.{Request}
 use Rattle.gem_shapes.specs.declared.request.Request.TheVariants as request
 use Rattle.gem_shapes.specs.declared.request.TablesRequest.{TablesRequest}
@@ -45,6 +45,8 @@ use Rattle.tool_step.specs.Codes.{is_accepted_in, is_granted_in}
 use Rattle.tool_step.specs.Grants.{GrantView}
 use Rattle.tool_step.specs.Messages.{answer_turn, dropped_turn, error_turn, established_turn, heard_turn, is_establish_request, is_online_request, keep_turn, kept_turn, known_turn, message_turn, offline_turn, primary_turn, read_turn, recorded_turn, request_turn, stray_turn, unkept_turn}
 use Rattle.tool_step.specs.Own.{OwnView, ToolTurn, event_report, is_communicating, is_enabled_in as is_comms_enabled, is_granted_by, is_online, turn_before, turn_of, unowed, waiting_report, waiting_data, with_ledger, without_grant, without_report, without_waiting_data}
+use Rattle.tool_step.specs.Recipes.{asked_of, takes_stream}
+use Rattle.gem_shapes.proofs.RecipeRequests.{asks_recipes, each_request}
 use Rattle.tool_step.specs.Replies.{granted_turn, loss_turn, matched_turn, reply_turn, secondary_turn}
 use Rattle.tool_step.specs.Sampling.{granted_trace_turn, trace_turn}
 use Rattle.tool_step.specs.Sent as sent
@@ -57,7 +59,7 @@ use Rattle.tool_law.proofs.CommandWalks.{abort-are}
 use Rattle.tool_law.proofs.TurnWalks.{dropped-of, established-of, offline-of, stray-of}
 use Rattle.tool_spool.proofs.CalmParts.{IsCalmTurn, answer-calm, comms-calm, common-calm, control-calm, control-request-calm, error-turn-calm, going-calm, like-as, likes, rsda-calm, states-like, unreported-like}
 use Rattle.tool_spool.proofs.KeptLedger.{one-call}
-use Rattle.tool_spool.proofs.KeptSetups.{TurnOwes, turn-owes, unkept-calm}
+use Rattle.tool_spool.proofs.KeptSetups.{TurnOwes, recipes-owe, turn-owes, unkept-calm}
 use Rattle.tool_spool.proofs.KeptUnload.{MayConfirm}
 use Rattle.tool_reports.proofs.OwedReplies.{next-so}
 use Rattle.tool_reports.proofs.QuietNotes.{one-behind}
@@ -317,23 +319,24 @@ module _ (plan : EquipmentPlan) (slots : ℕ) (list : List Put) (base before : L
       calm-turn plan slots list base before own (answer_turn asks message own) step (answer-calm asks message own) holds
 
   asked-turn :
-      (asks : Request) (now : ℕ) (message : Message) (own : OwnView) (step : CoreStep)
+      (asks : Request) (now : ℕ) (message : Message) (own : OwnView) (step : CoreStep) → asks_recipes asks ≡ false
       → request_of message.stream message.function message.body ≡ Some asks → IsNewest message step
       → ShelvesAt plan slots list base before own step → TurnEnds plan slots list base before
       (request_turn asks now message own) step
-  asked-turn (request.OfTables asked) now message own step is newest holds = answered asked message own step holds
-  asked-turn request.GoOffline now message own step is newest holds =
+  asked-turn (request.OfRecipes asked) now message own step none is newest holds = absurd (cc)
+  asked-turn (request.OfTables asked) now message own step none is newest holds = answered asked message own step holds
+  asked-turn request.GoOffline now message own step none is newest holds =
       calm-turn plan slots list base before own (request_turn request.GoOffline now message own) step
       (control-request-calm control_in.RequestOffline message own) holds
-  asked-turn request.GoOnline now message own step is newest holds =
+  asked-turn request.GoOnline now message own step none is newest holds =
       calm-turn plan slots list base before own (request_turn request.GoOnline now message own) step
       (control-request-calm control_in.RequestOnline message own) holds
-  asked-turn (request.Trace trid dsper total group svids) now message own step is newest holds =
+  asked-turn (request.Trace trid dsper total group svids) now message own step none is newest holds =
       let asked : TraceRequest =
       record { trid = trid; dsper = dsper; total = total; group = group; svids = svids } in
       calm-turn plan slots list base before own (trace_turn asked now message own) step
       (trace-calm asked now message own) holds
-  asked-turn request.TransmitSpool now message own step is newest holds = go (rsda_of own.ledger == 0) refl
+  asked-turn request.TransmitSpool now message own step none is newest holds = go (rsda_of own.ledger == 0) refl
     where
       go : (may : Bool) → (rsda_of own.ledger == 0) ≡ may
           → TurnEnds plan slots list base before
@@ -352,7 +355,7 @@ module _ (plan : EquipmentPlan) (slots : ℕ) (list : List Put) (base before : L
       go false may =
           calm-keeps plan slots list base before false own own (rsda_duties message own) step (likes own)
           (rsda-calm message own) holds
-  asked-turn request.PurgeSpool now message own step is newest holds = go (rsda_of own.ledger == 0)
+  asked-turn request.PurgeSpool now message own step none is newest holds = go (rsda_of own.ledger == 0)
     where
       asks_it : is_purge (request_of message.stream message.function message.body) ≡ true
       asks_it = subst (λ (asks : Option Request). is_purge asks ≡ true) (sym is) refl
@@ -373,7 +376,7 @@ module _ (plan : EquipmentPlan) (slots : ℕ) (list : List Put) (base before : L
       go false =
           calm-keeps plan slots list base before false own own (rsda_duties message own) step (likes own)
           (rsda-calm message own) holds
-  asked-turn request.Establish now message own step is newest holds =
+  asked-turn request.Establish now message own step none is newest holds =
       calm-keeps plan slots list base before false own own (sent.abort_duty message ∷ []) step (likes own)
       (abort-are common-calm message) holds
 
@@ -442,11 +445,23 @@ module _ (plan : EquipmentPlan) (slots : ℕ) (list : List Put) (base before : L
               full-so plan slots list base before own (Happening.Recorded (Past.Asked message)) step refl refl
               holds.shelves
 
+          -- one of which nothing is to be kept
+          Recorded : Request → Type 0
+          Recorded one =
+              request_of message.stream message.function message.body ≡ Some one
+              → TurnOwes plan slots list base before (recorded_turn message (request_turn one now message own)) step
+
+          recorded : (one : Request) → Recorded one
+          recorded =
+              each_request Recorded
+              (λ asked is. recipes-owe plan slots list base before (asked_of asked) message own next counts)
+              (λ one apart is.
+              turn-owes plan slots list base before (recorded_turn message (request_turn one now message own)) step
+              (asked-turn one now message own next apart is newer counts))
+
           heard : (list_behind : Option (List Entry)) → next_setup asks message own ≡ list_behind
               → TurnOwes plan slots list base before (heard_turn list_behind now asks message own) step
-          heard None none =
-              turn-owes plan slots list base before (recorded_turn message (request_turn asks now message own)) step
-              (asked-turn asks now message own next is newer counts)
+          heard None none = recorded asks is
           heard (Some kept) some = by_room (has_room (bytes_of kept)) refl
             where
               by_room : (room : Bool) → has_room (bytes_of kept) ≡ room
@@ -462,7 +477,7 @@ module _ (plan : EquipmentPlan) (slots : ℕ) (list : List Put) (base before : L
       → HoldsAt plan slots list base before own step
       → TurnOwes plan slots list base before (known_turn now header message own) step
   known-keeps now header message own step newest holds =
-      go (not (is_known_stream message.stream)) (not (is_known message.stream message.function))
+      go (not (takes_stream own message.stream)) (not (is_known message.stream message.function))
     where
       calm : (turn : ToolTurn) → IsCalmTurn own turn → TurnOwes plan slots list base before turn step
       calm turn is =

@@ -10,12 +10,12 @@ use Rattle.trace_log.specs.Log.{Happening}
 use Rattle.spool_works.specs.DiskWorks.{DiskWork, all_bytes, all_calls, bytes_of, calls_of, front_at, fronts_of}
 use Rattle.spool_works.specs.DiskWorks.{lines_behind, lines_up_to, standing_behind, standings_behind}
 use Rattle.spool_works.proofs.EachFront.{all_behind, all_up_to}
-use Rattle.tool_step.specs.Disk.{standing_in, works_of}
+use Rattle.tool_step.specs.Disk.{standing_in, unserved, works_of}
 use Rattle.tool_step.specs.Equipment.{EquipmentView, begun_step}
 use Rattle.tool_step.specs.Losses.{LossesAreCounted, loss_at, losses_of}
 use Rattle.spool_works.specs.WorkLosses.{calls_at, lost_calls}
 use Rattle.gem_spool.specs.Updates.{Left}
-use Rattle.message_end.proofs.Members.{has-either}
+use Rattle.message_end.proofs.Members.{has-either, has-front}
 use Rattle.spool_works.proofs.LossCounts.{AllOf, Each, length-both, lost-bytes, lost-count, lost-each}
 
 -- ---- all works of a step
@@ -179,5 +179,7 @@ losses-counted s input now = (
     losses-bytes s (works_of s input now) (standing_in s) [] (step_in (begun_step s input now)).notes,
   ),
   λ loss has.
-      losses-fronts s (works_of s input now) (standing_in s) [] (step_in (begun_step s input now)).notes loss has,
+      has-front (fronts_of [] (works_of s input now) (step_in (begun_step s input now)).notes)
+      (unserved (begun_step s input now)) loss.front
+      (losses-fronts s (works_of s input now) (standing_in s) [] (step_in (begun_step s input now)).notes loss has),
 )

@@ -78,7 +78,7 @@ no_fault code =
     (first_of (fault_within 63) (0 + length (shortest_head (kind_of x) (length_of x))) (items_of x)))
     (out_B (code ∷ []))
 
-text_is : (code : ℕ) → nat_lt code 256 ≡ true
+pub text_is : (code : ℕ) → nat_lt code 256 ≡ true
     → spelled_body 4096 (code_item code) ≡ answer.Body (33 ∷ 1 ∷ code ∷ [])
 text_is code is_byte =
     sym (body_is 4096 (code_item code) (33 ∷ 1 ∷ code ∷ [])

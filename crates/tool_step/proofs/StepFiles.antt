@@ -15,7 +15,7 @@ use Rattle.spool_slots.specs.Files.{with_mark_moved}
 use Rattle.trace_log.specs.declared.commands.ToolCommand.{ToolCommand}
 use Rattle.trace_log.specs.Log.{Happening}
 use Rattle.tool_step.specs.declared.kind.Kind.{Kind}
-use Rattle.tool_step.specs.Equipment.{EquipmentView, act, begun_step, ended_step, is_marked_out, kept_step, needs_numbers, node_step, oldest_of, parts_done, reserved, settled, settled_file, settled_list, settled_step, settled_went, went_with_file}
+use Rattle.tool_step.specs.Equipment.{EquipmentView, act, begun_step, done_step, ended_step, is_marked_out, needs_numbers, node_step, oldest_of, parts_done, reserved, settled, settled_file, settled_list, settled_went, went_with_file}
 use Rattle.setup_store.specs.Copies.{with_kept}
 use Rattle.tool_step.specs.Own.{OwnView}
 use Rattle.tool_step.specs.Setup.{kept_file, to_keep}
@@ -69,7 +69,7 @@ parts-file s (Spent step) = refl
 pub ended-file : (went : Went EquipmentView Happening) (now : ℕ)
     → (step_in (and_then (settled_went went) (ended_step now))).next.file ≡ (step_in (settled_went went)).next.file
 ended-file (Goes step) now =
-    let done = kept_step (settled_step step) in
+    let done = done_step step in
     parts-file done.next (after_parts Some (last_parts (oldest_of done.next) now) (node_step done))
 ended-file (Spent step) now = refl
 

@@ -14,6 +14,7 @@ use Rattle.spool_ledger.specs.Sizes.{oldest_of}
 use Rattle.spool_ledger.specs.Unloading.{next_number}
 use Rattle.tool_step.specs.Equipment.{EquipmentView, begun_step, is_marked_out, needs_numbers}
 use Rattle.tool_step.specs.Own.{OwnView}
+use Rattle.tool_step.specs.Recipes.{owes_recipes}
 use Rattle.tool_step.specs.Setup.{to_keep}
 use Rattle.spool_works.specs.DiskWorks.{DiskWork, fronts_of, all_calls, all_bytes}
 use Rattle.spool_works.specs.DiskWorks.DiskWork.{Change, Keep, ReadOldest, Reserve}
@@ -47,9 +48,17 @@ works_behind begun = map Change (owed_in begun) ++ keep_works begun ++ read_work
 abbrev pub works_of : EquipmentView → Input ToolCommand → ℕ → List DiskWork
 works_of s input now = reserve_works s ++ works_behind (begun_step s input now)
 
--- for each work of a step, in their order, what was noted where the disk fails at it (this profile)
+-- what was noted where the recipes are asked, if they are, and fail: that is behind all works (this profile)
+abbrev pub unserved : Went EquipmentView Happening → List (List Happening)
+unserved (Goes step) = if owes_recipes step.next.node.own.owed then step.notes ∷ [] else []
+unserved (Spent step) = []
+
+-- for each work of a step, in their order, what was noted where the disk fails at it (this profile); and so of the
+-- recipes
 abbrev pub stops : EquipmentView → Input ToolCommand → ℕ → List (List Happening)
-stops s input now = fronts_of [] (works_of s input now) (step_in (begun_step s input now)).notes
+stops s input now =
+    let begun = begun_step s input now in
+    fronts_of [] (works_of s input now) (step_in begun).notes ++ unserved begun
 
 -- ---- what they make of the file, and what they cost
 

@@ -1,5 +1,5 @@
 -- The equipment with its spool: a step as a whole, its starts, and the equipment as an end.
-use Rattle.std.specs.Prelude.{ℕ, Bool, false, ◌+◌, ◌^◌, nat_lt, List, [], ◌∷◌, ◌++◌, map, slice_get, Option, Some, None, if◌then◌else◌}
+use Rattle.std.specs.Prelude.{ℕ, Bool, true, false, ◌+◌, ◌^◌, nat_lt, List, [], ◌∷◌, ◌++◌, map, slice_get, Option, Some, None, if◌then◌else◌}
 use Rattle.std.specs.Option.{option_map}
 use Rattle.gem_spool.specs.Works.{lists_after, standings_after}
 use Rattle.gem_states.specs.Comms.{comms_after}
@@ -24,15 +24,17 @@ use Rattle.equipment_tables.specs.declared.plan.EquipmentPlan.{EquipmentPlan}
 use Rattle.equipment_tables.specs.Tables.{planned_tables}
 use Rattle.tool_step.specs.declared.kind.Kind.{Kind}
 use Rattle.tool_step.specs.Own.{OwnView, ToolPart, TracingView, with_ledger}
+use Rattle.tool_step.specs.Recipes.{RecipesView, answered_by, no_recipes, recipes_behind}
 use Rattle.tool_step.specs.Setup.{carried_lines, found_list, kept_file, set_up, setup_in}
 use Rattle.tool_step.specs.Step.{end_plan, first_parts, last_parts}
 use Rattle.spool_works.specs.Found.{spooled_of, first_in, found_in}
 
--- the equipment, and the file of its spool, which is all that a loss of power keeps: below its mark all system bytes
--- lie that it may have drawn
+-- the equipment, and what a loss of power keeps: the file of its spool, below whose mark all system bytes lie that it may
+-- have drawn, and its recipes
 pub record EquipmentView : Type 0 where
   pub node : Node OwnView Kind
   pub file : SpoolFile
+  pub recipes : RecipesView
 
 -- ---- system bytes
 
@@ -51,6 +53,7 @@ abbrev pub reserved : EquipmentView → EquipmentView
 reserved s = record {
   node = with_core (core_after (More 4096) s.node.core) s.node;
   file = with_mark_moved s.file;
+  recipes = s.recipes;
 }
 
 abbrev pub reserving : EquipmentView → Went EquipmentView Happening
@@ -94,6 +97,7 @@ abbrev pub settled : EquipmentView → EquipmentView
 settled s = record {
   node = record s.node { own = settled_own s.node.own };
   file = settled_file s.node.own.ledger s.file;
+  recipes = s.recipes;
 }
 
 abbrev pub settled_step : Step EquipmentView Happening → Step EquipmentView Happening
@@ -106,9 +110,26 @@ kept_view s = record s { file = kept_file s.node.own s.file }
 abbrev pub kept_step : Step EquipmentView Happening → Step EquipmentView Happening
 kept_step step = record step { next = kept_view step.next }
 
--- what the spool owes also where the numbers are spent by then (this profile)
+-- and the recipes are asked behind both
+abbrev pub served_own : RecipesView → OwnView → OwnView
+served_own kept own = record own { owed = answered_by kept own.owed }
+
+abbrev pub served_view : EquipmentView → EquipmentView
+served_view s = record {
+  node = record s.node { own = served_own s.recipes s.node.own };
+  file = s.file;
+  recipes = recipes_behind s.node.own.owed s.recipes;
+}
+
+abbrev pub served_step : Step EquipmentView Happening → Step EquipmentView Happening
+served_step step = record step { next = served_view step.next }
+
+-- all of that; what the spool owes also where the numbers are spent by then (this profile)
+abbrev pub done_step : Step EquipmentView Happening → Step EquipmentView Happening
+done_step step = served_step (kept_step (settled_step step))
+
 abbrev pub settled_went : Went EquipmentView Happening → Went EquipmentView Happening
-settled_went (Goes step) = Goes (kept_step (settled_step step))
+settled_went (Goes step) = Goes (done_step step)
 settled_went (Spent step) = Spent (settled_step step)
 
 -- ---- a step
@@ -146,6 +167,7 @@ new_own plan setup ledger = record {
   ledger = ledger;
   tried = None;
   owed = None;
+  offers = false;
   tracing = no_traces;
   events = 0;
   has_begun = false;
@@ -164,6 +186,7 @@ started_on plan file = record {
       core = new_end (end_plan plan) (numbers_from file.mark.value 4096);
     };
     file = with_mark_moved (upgraded file);
+    recipes = no_recipes;
   };
   notes = EquipmentStarted (found_in file.list) file.mark.value ∷ setup_lines plan (setup_in file);
   written = [];
@@ -178,6 +201,14 @@ starts plan file =
     if is_marked_out file.mark.value then Spent (at_first (unstarted plan file))
     else Goes (started_on plan file)
 
--- a start anew finds what is kept
+-- one with these recipes, which a host is offered
+abbrev pub offering : RecipesView → EquipmentView → EquipmentView
+offering kept s = record {
+  node = record s.node { own = record s.node.own { offers = true } };
+  file = s.file;
+  recipes = kept;
+}
+
+-- a start anew without recipes finds what is kept
 abbrev pub restarts : EquipmentView → ℕ → Went EquipmentView Happening
 restarts s now = starts s.node.own.plan s.file

@@ -1,5 +1,5 @@
 -- What the device of the spool holds where a step ends early, whatever a crash leaves of it.
-use Rattle.std.specs.Prelude.{◌≡◌, ℕ, List, take, Some}
+use Rattle.std.specs.Prelude.{◌≡◌, ◌⊎◌, ℕ, List, [], ◌∷◌, length, take, Some}
 use Rattle.std.specs.List.{slice_get}
 use Rattle.disk_base.specs.Story.{Moment}
 use Rattle.disk_base.specs.Through.{EachImage}
@@ -13,8 +13,8 @@ use Rattle.message_end.specs.declared.end.Stop.TheVariants.{DiskFailed, Full, No
 use Rattle.message_end.specs.Core.{step_in}
 use Rattle.message_end.specs.Ends.{Input, printed}
 use Rattle.spool_works.specs.DiskWorks.{DiskWork, IsAmidWork, standings_behind}
-use Rattle.tool_step.specs.Disk.{standing_in, stops, works_of}
-use Rattle.tool_step.specs.Equipment.{EquipmentView, act}
+use Rattle.tool_step.specs.Disk.{standing_in, stops, unserved, works_of}
+use Rattle.tool_step.specs.Equipment.{EquipmentView, act, begun_step}
 
 -- a spool that stands so
 abbrev pub Holds : Standing → Moment → Type 0
@@ -36,6 +36,15 @@ pub record HasFailed (s : EquipmentView) (input : Input ToolCommand) (now : ℕ)
   pub notes : out.notes ≡ printed front
   pub left : EachImage (IsAmidWork (standing_at s input now place) work) moment
 
+-- the keeper of the recipes has failed, which was asked behind all works: they are done, and all is noted that was noted
+-- before them
+pub record IsUnserved (s : EquipmentView) (input : Input ToolCommand) (now : ℕ) (out : StepOut) (moment : Moment)
+    : Type 0 where
+  pub front : List Happening
+  pub is : unserved (begun_step s input now) ≡ front ∷ []
+  pub notes : out.notes ≡ printed front
+  pub left : Holds (standing_at s input now (length (works_of s input now))) moment
+
 -- memory has run out: some first works are done
 pub record HasBegun (s : EquipmentView) (input : Input ToolCommand) (now : ℕ) (moment : Moment) : Type 0 where
   pub place : ℕ
@@ -46,4 +55,4 @@ abbrev pub Leaves : EquipmentView → Input ToolCommand → ℕ → StepOut → 
 Leaves s input now out moment NoMemory = HasBegun s input now moment
 Leaves s input now out moment NumbersSpent = Holds (standing_in (step_in (act s input now)).next) moment
 Leaves s input now out moment Full = ⊥
-Leaves s input now out moment DiskFailed = HasFailed s input now out moment
+Leaves s input now out moment DiskFailed = HasFailed s input now out moment ⊎ IsUnserved s input now out moment

@@ -9,6 +9,7 @@ pub mod Live
 pub mod Losses
 pub mod Messages
 pub mod Own
+pub mod Recipes
 pub mod Replies
 pub mod Reports
 pub mod Sampling
@@ -21,6 +22,7 @@ pub mod Taking
 pub mod Tool
 pub mod WorkedLosses
 pub mod WorkedOwnS1F13
+pub mod WorkedRecipes
 pub mod WorkedSetup
 pub mod WorkedSpool
 pub mod WorkedTraces

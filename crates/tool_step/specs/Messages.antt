@@ -5,7 +5,7 @@ use Rattle.gem_shapes.specs.declared.request.Request.{Request}
 use Rattle.gem_shapes.specs.declared.request.Request.TheVariants as request
 use Rattle.gem_shapes.specs.declared.request.TablesRequest.{TablesRequest}
 use Rattle.gem_shapes.specs.Answers.{code_item}
-use Rattle.gem_shapes.specs.Primaries.{is_known, is_known_stream}
+use Rattle.gem_shapes.specs.Primaries.{is_known}
 use Rattle.gem_states.specs.declared.comms.CommsIn.TheVariants.{HostRequest, OtherMessage}
 use Rattle.gem_states.specs.declared.control.ControlIn.{ControlIn}
 use Rattle.gem_states.specs.declared.control.ControlIn.TheVariants.{RequestOffline, RequestOnline}
@@ -27,6 +27,7 @@ use Rattle.tool_step.specs.declared.kind.Kind.TheVariants as kind
 use Rattle.equipment_tables.specs.Answers.{answer_of, established_of, lines_of}
 use Rattle.tool_step.specs.declared.owed.Owed.TheVariants.{Keep}
 use Rattle.tool_step.specs.Own.{OwnView, ToolCommands, ToolDuty, ToolTurn, is_communicating, is_enabled_in, is_local, is_online, owing, turn_of, untold, with_control, with_setup, with_tables}
+use Rattle.tool_step.specs.Recipes.{asked_of, recipes_turn, takes_stream}
 use Rattle.tool_step.specs.Replies.{secondary_turn}
 use Rattle.equipment_tables.specs.Requests.{request_of}
 use Rattle.tool_step.specs.Sampling.{trace_turn}
@@ -102,6 +103,7 @@ answer_turn request message own =
 -- S1F13 doesn't come here: before any request is read it establishes the communication
 abbrev pub request_turn : Request → ℕ → Message → OwnView → ToolTurn
 request_turn (request.OfTables asked) now message own = answer_turn asked message own
+request_turn (request.OfRecipes asked) now message own = recipes_turn (asked_of asked) message own
 request_turn request.Establish now message own = turn_of own (abort_duty message ∷ [])
 request_turn request.GoOffline now message own = control_request_turn RequestOffline message own
 request_turn request.GoOnline now message own = control_request_turn RequestOnline message own
@@ -161,7 +163,7 @@ is_establish_request message = (message.stream == 1) && (message.function == 13)
 -- a stream and a function that aren't known get S9F3 and S9F5, a text of another shape S9F7 (SEMI E5, stream 9)
 abbrev pub known_turn : ℕ → Header → Message → OwnView → ToolTurn
 known_turn now header message own =
-    if not (is_known_stream message.stream) then error_turn 3 header own
+    if not (takes_stream own message.stream) then error_turn 3 header own
     else if not (is_known message.stream message.function) then error_turn 5 header own
     else read_turn now (request_of message.stream message.function message.body) header message own
 

@@ -34,8 +34,8 @@ pub record TracingView : Type 0 where
 -- the plan; the tables; the setup that is kept, the oldest first, None where the file has no room for any; the two
 -- state models; the S6F11 that wait for S6F6, in the order in which they were made; the reports that were sent and
 -- aren't answered yet; what becomes of the spool; the system bytes with which a message of it was tried last, in this
--- start; what this step asks of an object outside; the traces; the DATAID of the next event; and whether its first step
--- is over
+-- start; what this step asks of an object outside; whether a host is offered recipes; the traces; the DATAID of the next
+-- event; and whether its first step is over
 pub record OwnView : Type 0 where
   pub plan : EquipmentPlan
   pub tables : TablesState
@@ -47,6 +47,7 @@ pub record OwnView : Type 0 where
   pub ledger : LedgerView
   pub tried : Option ℕ
   pub owed : Option Owed
+  pub offers : Bool
   pub tracing : TracingView
   pub events : ℕ
   pub has_begun : Bool

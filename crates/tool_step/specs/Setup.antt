@@ -87,6 +87,7 @@ accepted_item primary = if primary.function == 43 then reply_item Replaced else 
 abbrev pub bytes_to_keep : Option Owed → Option (List Entry) → Option (List ℕ)
 bytes_to_keep None setup = None
 bytes_to_keep (Some (Keep primary)) setup = option_map bytes_of setup
+bytes_to_keep _ setup = None
 
 -- the bytes that are to be kept in this step, if any are
 abbrev pub to_keep : OwnView → Option (List ℕ)

@@ -20,8 +20,9 @@ use Rattle.equipment_tables.specs.declared.plan.EquipmentPlan.{EquipmentPlan}
 use Rattle.tool_step.specs.declared.kind.Kind.{Kind}
 use Rattle.tool_step.specs.Messages.{message_turn}
 use Rattle.tool_step.specs.declared.owed.Owed.{Owed}
-use Rattle.tool_step.specs.declared.owed.Owed.TheVariants.{Keep}
+use Rattle.tool_step.specs.declared.owed.Owed.TheVariants.{Answered, Keep, Recipes}
 use Rattle.tool_step.specs.Own.{OwnView, ToolPart, ToolTurn, quiet_turn, turn_of, unowed}
+use Rattle.tool_step.specs.Recipes.{recipes_text}
 use Rattle.tool_step.specs.Replies.{block_timer, given_up_turn, reply_timer}
 use Rattle.tool_step.specs.Sampling.{sample_parts}
 use Rattle.tool_step.specs.Sent.{answer_duties, error_duty, text_of}
@@ -107,9 +108,12 @@ abbrev pub first_parts : Input ToolCommand → ℕ → List ToolPart
 first_parts input now = beginning now ∷ line_timer now
     ∷ ((late_parts now ++ delay_timer now ∷ sample_parts now) ++ input_part input now ∷ [])
 
--- what was asked of an object outside is done by then, and the primary that asked for it is answered (this profile)
+-- what was asked of an object outside is done by then, and the primary that asked for it is answered (this profile; what
+-- is still asked of the recipes then was never put to them)
 abbrev pub owed_turn : Option Owed → OwnView → ToolTurn
 owed_turn None own = quiet_turn own
+owed_turn (Some (Recipes asked primary)) own = quiet_turn own
+owed_turn (Some (Answered given primary)) own = turn_of own (answer_duties (recipes_text own given) primary)
 owed_turn (Some (Keep primary)) own = turn_of own (answer_duties (text_of own (accepted_item primary)) primary)
 
 abbrev pub answering : ToolPart

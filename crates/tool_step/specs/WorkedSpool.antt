@@ -378,6 +378,7 @@ last_view =
             ∷ Offer 0 ∷ []) s.node.core;
       };
       file = s.file;
+      recipes = s.recipes;
     }
 
 abbrev pub last_step : Step EquipmentView Happening

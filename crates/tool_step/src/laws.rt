@@ -4,6 +4,7 @@ ghost use Rattle.tool_step.specs.CallsCounted.{CallsAreCounted};
 ghost use Rattle.tool_step.specs.Losses.{LossesAreCounted};
 ghost use Rattle.tool_step.specs.WorkedLosses.{LosesAtCalls};
 ghost use Rattle.tool_step.specs.WorkedOwnS1F13.{EndOwnS1F13};
+ghost use Rattle.tool_step.specs.WorkedRecipes.{RecipesAreServed};
 ghost use Rattle.tool_step.specs.WorkedSetup.{IsKeptSo, IsNotKept, IsSetUpSo};
 ghost use Rattle.tool_step.specs.WorkedSpool.{FullSpools, LosesInOrder, PutsTheLast, SpoolingBegins, UnloadsInOrder};
 ghost use Rattle.tool_step.specs.WorkedTraces.{TraceDataGoes, TracesAreWorked};
@@ -53,4 +54,12 @@ pub fn worked_setups()
     ensures kept { IsKeptSo }
     ensures refused { IsNotKept }
     ensures starts { IsSetUpSo }
+{}
+
+/// Examples of recipes. S7F1 is granted where there is space; S7F3 is stored, or refused for want of space; S7F5 finds a
+/// body, or none; S7F17 deletes a name that is known, and nothing where one isn't; S7F19 finds a name, or none. What
+/// wants no answer isn't asked, unless it changes the recipes; no answer goes where they fail; and S9F3 goes where none
+/// are offered.
+pub fn worked_recipes()
+    ensures { RecipesAreServed }
 {}

@@ -1,5 +1,5 @@
 -- Turns of replies, requests and the tool's commands that send no S6F1 and leave the traces as they are.
-use Rattle.std.proofs.Common.{refl, ◌∙◌, arith, ◌==◌, Bool, true, false, ℕ, List, [], ◌∷◌, Option, Some, None, if◌then◌else◌}
+use Rattle.std.proofs.Common.{refl, ◌∙◌, arith, ◌==◌, ◌||◌, Bool, true, false, ℕ, List, [], ◌∷◌, Option, Some, None, if◌then◌else◌}
 use Rattle.std.specs.List.{find}
 use Rattle.std.specs.Option.{option_map}
 use Rattle.block_codec.specs.declared.header.Header.{Header}
@@ -15,6 +15,8 @@ use Rattle.gem_states.specs.declared.control.ControlIn.{ControlIn}
 use Rattle.gem_states.specs.declared.control.ControlIn.TheVariants as control_in
 use Rattle.gem_vars.specs.declared.settings.Setting.{Setting}
 use Rattle.gem_vars.specs.Settings as settings
+use Rattle.gem_recipes.specs.declared.asking.RecipesAsked.{RecipesAsked}
+use Rattle.gem_recipes.specs.Asking.{is_change}
 use Rattle.message_flow.specs.declared.message.Message.{Message}
 use Rattle.secs_items.specs.declared.item.Item.{Item}
 use Rattle.setup_store.specs.Entries.{Entry}
@@ -37,15 +39,16 @@ use Rattle.tool_step.specs.declared.kind.Kind.{Kind}
 use Rattle.tool_step.specs.declared.kind.Kind.TheVariants as kind
 use Rattle.tool_step.specs.Grants.{GrantView}
 use Rattle.tool_step.specs.declared.owed.Owed.{Owed}
-use Rattle.tool_step.specs.declared.owed.Owed.TheVariants.{Keep}
+use Rattle.tool_step.specs.declared.owed.Owed.TheVariants.{Answered, Keep, Recipes as OfRecipes}
 use Rattle.tool_step.specs.Messages.{answer_turn, control_request_turn, dropped_turn, error_turn, established_turn, keep_turn, offline_turn, stray_turn, unkept_duties, unkept_turn}
-use Rattle.tool_step.specs.Own.{OwnView, ToolTurn, event_report, is_granted_by, is_local, turn_before, turn_of, unowed, waiting_report, with_ledger, with_tables, without_grant, without_report, without_waiting_data}
+use Rattle.tool_step.specs.Own.{OwnView, ToolTurn, event_report, is_granted_by, is_local, owing, quiet_turn, turn_before, turn_of, unowed, untold, waiting_report, with_ledger, with_tables, without_grant, without_report, without_waiting_data}
 use Rattle.tool_step.specs.Replies.{block_timer, given_up_by_t4, given_up_turn, granted_turn, loss_turn, reply_timer, timeout_turn}
 use Rattle.tool_step.specs.Sampling.{trace_name}
 use Rattle.tool_step.specs.Sent as sent
 use Rattle.tool_step.specs.Setup.{accepted_item, has_space_code, no_space}
 use Rattle.tool_step.specs.Spooling.{booked_turn, confirmed_turn, grant_given_turn, let_go_turn, purge_turn, rsda_duties, transmit_turn, unloaded_own, unloading_turn}
 use Rattle.tool_step.specs.States as states
+use Rattle.tool_step.specs.Recipes.{recipes_text, recipes_turn}
 use Rattle.tool_step.specs.Step.{answering, owed_turn}
 use Rattle.tool_step.specs.Tool.{alarm_line, alarm_report_turn, alarm_turn, command_turn, enabled_turn, known_event_turn, set_turn, with_event}
 use Rattle.tool_law.proofs.CommandWalks.{abort-are}
@@ -239,11 +242,31 @@ unkept-idle message own = go (has_space_code message)
     }
     go false = abort-turn-idle message own
 
+-- ---- what is asked of the recipes
+
+pub recipes-idle : (asked : RecipesAsked) (message : Message) (own : OwnView)
+    → IsIdleTurn own (recipes_turn asked message own)
+recipes-idle asked message own = go (message.wait || is_change asked)
+  where
+    owes : OwnView
+    owes = owing (OfRecipes asked (untold message)) own
+
+    go : (asks : Bool) → IsIdleTurn own (if asks then quiet_turn owes else quiet_turn own)
+    go true = nothing-of own owes (kept own owes refl)
+    go false = nothing-of own own (itself own)
+
+-- ---- the answer that has waited
+
 pub answering-idle : (own : OwnView) (e : EndView Kind) → IsIdleTurn own (answering own e)
 answering-idle own e = go own.owed
   where
     go : (owed : Option Owed) → IsIdleTurn own (owed_turn owed (unowed own))
     go None = nothing-of own (unowed own) (kept own (unowed own) refl)
+    go (Some (OfRecipes asked primary)) = nothing-of own (unowed own) (kept own (unowed own) refl)
+    go (Some (Answered given primary)) = record {
+      duties = answers-idle (recipes_text (unowed own) given) primary;
+      keeps = kept own (unowed own) refl;
+    }
     go (Some (Keep primary)) = record {
       duties = answers-idle (sent.text_of (unowed own) (accepted_item primary)) primary;
       keeps = kept own (unowed own) refl;

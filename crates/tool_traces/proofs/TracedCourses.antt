@@ -35,13 +35,14 @@ use Rattle.tool_step.specs.declared.kind.Kind.{Kind}
 use Rattle.tool_step.specs.Own.{OwnView}
 use Rattle.tool_step.specs.Disk.{stops, works_of}
 use Rattle.tool_step.specs.End.{machine}
-use Rattle.tool_step.specs.Equipment.{unstarted, EquipmentView, act, begun_step, ended_step, is_marked_out, kept_step, kept_view, needs_numbers, node_step, oldest_of, parts_done, reserved, restarts, settled, settled_step, settled_went, started_on, starts, went_with_file}
+use Rattle.tool_step.specs.Equipment.{unstarted, EquipmentView, act, begun_step, done_step, ended_step, is_marked_out, needs_numbers, node_step, oldest_of, parts_done, reserved, restarts, settled_went, started_on, starts, went_with_file}
 use Rattle.tool_step.specs.Losses.{losses}
 use Rattle.tool_step.specs.Setup.{setup_in}
 use Rattle.tool_step.specs.Step.{first_parts, last_parts}
 use Rattle.tool_step.proofs.LossCalls.{losses-counted}
 use Rattle.tool_law.specs.Sound.{AllCanBeSent}
-use Rattle.tool_law.proofs.Lawful.{fronts-are}
+use Rattle.spool_works.specs.DiskWorks.{fronts_of}
+use Rattle.tool_law.proofs.Lawful.{each-stop, fronts-are}
 use Rattle.tool_law.proofs.SetupStarts.{AreLines, are-lines, found_lines}
 use Rattle.tool_reports.specs.LookedBack.{HasWhatWasSet}
 use Rattle.tool_reports.specs.Reported.{IsTextOf, count_of, tables_in}
@@ -287,11 +288,10 @@ module _ (plan : EquipmentPlan) where
             → OnEither WellCloses FewEnds (and_then (settled_went went) (ended_step now))
         go (Spent step) at = at
         go (Goes step) at =
-            closed-file (kept_view (settled step.next))
-            (after_parts Some (last_parts (oldest_of (kept_view (settled step.next))) now)
-            (node_step (kept_step (settled_step step))))
-            (last-keeps notes look past due looked bound (oldest_of (kept_view (settled step.next))) now
-            (node_step (kept_step (settled_step step)))
+            closed-file (done_step step).next
+            (after_parts Some (last_parts (oldest_of (done_step step).next) now) (node_step (done_step step)))
+            (last-keeps notes look past due looked bound (oldest_of (done_step step).next) now
+            (node_step (done_step step))
             (record {
               sent = at.sent;
               asked = at.asked;
@@ -380,25 +380,34 @@ module _ (plan : EquipmentPlan) where
         → s.node.own.tables ≡ tables_in plan notes → IsReachedSo steps s notes
         → Has (stops s input now) front → IsFewAmid steps notes now front
     front-so input s front tables so has =
-        let few = spent-of (begun_step s input now) (begun-keeps input s tables so) in
-        let first : IsFront front (step_in (begun_step s input now)).notes =
-        fronts-are (works_of s input now) [] (step_in (begun_step s input now)).notes front has in
-        let whole : noted_behind (step_in (begun_step s input now)).notes notes
-        ≡ noted_behind first.rest (noted_behind front notes) =
-        ap (λ (l : List Happening). noted_behind l notes) first.whole ∙ behind-both front first.rest notes in
-        let amid = subst AreAmid first.whole few.reads.amid in
-        let later = rest-amid front first.rest amid in
-        record {
-          amid = front-amid front first.rest amid;
-          few = record {
-            sound = sound-before first.rest (noted_behind front notes) (subst AreSound whole few.reads.sound);
-            few = λ body.
-                let all = (few-behind (step_in (begun_step s input now)) few).few body in
-                let grow = datas-grow body first.rest (noted_behind front notes) later in
-                let same = ap (λ (l : List Happening). count_of body (datas_in l)) whole in
-                omega (arith, all, grow, same);
-          };
-        }
+        each-stop (IsFewAmid steps notes now) s input now at-work
+        (few-amid (step_in (begun_step s input now)) few) front has
+      where
+        all : List Happening
+        all = (step_in (begun_step s input now)).notes
+
+        few : FewEnds (step_in (begun_step s input now))
+        few = spent-of (begun_step s input now) (begun-keeps input s tables so)
+
+        at-work : (ns : List Happening) → Has (fronts_of [] (works_of s input now) all) ns
+            → IsFewAmid steps notes now ns
+        at-work ns at =
+            let first : IsFront ns all = fronts-are (works_of s input now) [] all ns at in
+            let whole : noted_behind all notes ≡ noted_behind first.rest (noted_behind ns notes) =
+            ap (λ (l : List Happening). noted_behind l notes) first.whole ∙ behind-both ns first.rest notes in
+            let amid = subst AreAmid first.whole few.reads.amid in
+            let later = rest-amid ns first.rest amid in
+            record {
+              amid = front-amid ns first.rest amid;
+              few = record {
+                sound = sound-before first.rest (noted_behind ns notes) (subst AreSound whole few.reads.sound);
+                few = λ body.
+                    let most = (few-behind (step_in (begun_step s input now)) few).few body in
+                    let grow = datas-grow body first.rest (noted_behind ns notes) later in
+                    let same = ap (λ (l : List Happening). count_of body (datas_in l)) whole in
+                    omega (arith, most, grow, same);
+              };
+            }
 
   -- ---- over all starts
 

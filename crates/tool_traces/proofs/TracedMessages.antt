@@ -3,7 +3,7 @@ use Rattle.std.proofs.Common.{◌≡◌, refl, sym, ap, subst, ◌∙◌, ◌&&�
 use Rattle.std.specs.List.{cons_option}
 use Rattle.block_codec.specs.declared.header.Header.{Header}
 use Rattle.gem_shapes.specs.Answers.{code_item}
-use Rattle.gem_shapes.specs.Primaries.{is_known, is_known_stream}
+use Rattle.gem_shapes.specs.Primaries.{is_known}
 use Rattle.gem_shapes.specs.declared.request.Request.{Request}
 use Rattle.gem_shapes.specs.declared.request.Request.TheVariants as request
 use Rattle.gem_shapes.specs.declared.request.TablesRequest.{TablesRequest}
@@ -45,6 +45,7 @@ use Rattle.tool_step.specs.declared.kind.Kind.TheVariants as kind
 use Rattle.tool_step.specs.Codes.{is_accepted_in, is_granted_in}
 use Rattle.tool_step.specs.Messages.{dropped_turn, error_turn, established_turn, is_establish_request, is_online_request, heard_turn, keep_turn, kept_turn, known_turn, message_turn, offline_turn, primary_turn, read_turn, request_turn, requested_turn, stray_turn, unkept_turn}
 use Rattle.tool_step.specs.Own.{OwnView, ToolTurn, is_communicating, is_enabled_in, is_online, quiet_turn, turn_of, waiting_report, waiting_data, without_grant, without_report, without_waiting_data}
+use Rattle.tool_step.specs.Recipes.{asked_of, takes_stream}
 use Rattle.tool_step.specs.Replies.{granted_turn, given_up_turn, loss_turn, matched_turn, reply_turn, secondary_turn}
 use Rattle.tool_step.specs.Sampling.{granted_trace_turn, running_by, tiaack_code, tiaack_in, trace_turn}
 use Rattle.tool_step.specs.Sent as sent
@@ -55,7 +56,7 @@ use Rattle.tool_step.specs.Step.{failed_turn, flow_turn, input_part, is_spent, l
 use Rattle.tool_step.specs.Tool.{command_turn, told_turn}
 use Rattle.tool_law.proofs.CoreSteps.{CoreStep}
 use Rattle.tool_reports.specs.Sampled.{setting_by, setting_in, setting_of}
-use Rattle.tool_traces.proofs.IdleMessages.{abort-turn-idle, answer-idle, command-idle, confirmed-idle, control-request-idle, dropped-idle, error-idle, established-idle, given-idle, given-up-idle, grant-idle, keep-idle, loss-idle, offline-idle, purge-idle, stray-idle, transmit-idle, unkept-idle}
+use Rattle.tool_traces.proofs.IdleMessages.{abort-turn-idle, answer-idle, command-idle, confirmed-idle, control-request-idle, dropped-idle, error-idle, established-idle, given-idle, given-up-idle, grant-idle, keep-idle, loss-idle, offline-idle, purge-idle, recipes-idle, stray-idle, transmit-idle, unkept-idle}
 use Rattle.tool_traces.proofs.IdleNotes.{Reads, reads-asked}
 use Rattle.tool_law.proofs.TurnWalks.{fixed-of, led-of, nothing-of}
 use Rattle.tool_traces.proofs.IdleTurns.{IsIdleTurn, answers-idle, comms-idle, control-idle, errors-idle, itself, kept, leaving-idle}
@@ -234,6 +235,9 @@ module _ (before : List Happening) (look : Look) (past : List TraceEntry) (due :
       → Takes own (requested_turn look.now asked message own)
   request-takes (request.OfTables asked) message own vars is =
       set-up-takes (next_kept asked message own) asked message own is
+  request-takes (request.OfRecipes asked) message own vars is =
+      others (Some (request.OfRecipes asked)) message own
+      (request_turn (request.OfRecipes asked) look.now message own) is refl (recipes-idle (asked_of asked) message own)
   request-takes request.Establish message own vars is =
       others (Some request.Establish) message own (request_turn request.Establish look.now message own) is refl
       (abort-turn-idle message own)
@@ -261,7 +265,7 @@ module _ (before : List Happening) (look : Look) (past : List TraceEntry) (due :
 
   known-takes : (header : Header) (message : Message) (own : OwnView) → own.tables.vars ≡ look.vars
       → Takes own (known_turn look.now header message own)
-  known-takes header message own vars = go (is_known_stream message.stream) (is_known message.stream message.function)
+  known-takes header message own vars = go (takes_stream own message.stream) (is_known message.stream message.function)
     where
       go : (stream function : Bool)
           → Takes own
