@@ -4,7 +4,7 @@ use Rattle.std.specs.Prelude.{Result, Ok, Err, IfOk, map}
 use Rattle.std.specs.List.{filter_map}
 use Rattle.block_codec.specs.declared.header.Header.{Header}
 use Rattle.gem_shapes.specs.declared.request.Request.{Request}
-use Rattle.gem_shapes.specs.Primaries.{is_known, is_known_stream}
+use Rattle.gem_shapes.specs.Primaries.{is_known}
 use Rattle.gem_states.specs.declared.comms.CommsIn.TheVariants.{HostRequest}
 use Rattle.message_flow.specs.declared.message.Message.{Message}
 use Rattle.message_flow.specs.declared.step.Note.{Note}
@@ -24,6 +24,7 @@ use Rattle.equipment_tables.specs.Requests.{request_of}
 use Rattle.equipment_tables.specs.Tables.{TablesState}
 use Rattle.tool_step.specs.declared.kind.Kind.{Kind}
 use Rattle.tool_step.specs.declared.kind.Kind.TheVariants as kind
+use Rattle.tool_step.specs.Recipes.{takes_stream}
 use Rattle.tool_step.specs.Messages.{dropped_turn, error_turn, established_duties, established_turn, heard_turn, is_establish_request, is_online_request, keep_turn, kept_turn, known_turn, offline_turn, own_s1f13_commands, own_s1f13_duty, primary_turn, read_turn, request_turn, requested_turn, stray_turn, unkept_turn}
 use Rattle.tool_step.specs.Own.{OwnView, ToolDuty, ToolTurn, is_communicating, is_online, turn_of, with_tables}
 use Rattle.tool_step.specs.Reports.{unreported_turn}
@@ -135,7 +136,7 @@ judged_by now header message own stream function asked =
 pub read_so :
     (A : Type 0) (now : ℕ) (header : Header) (message : Message) (found : Option Request) (asked : Request)
     (old new : ToolNode) (out out_new : StepOut) (result : Result A Stop)
-    → is_known_stream message.stream ≡ true → is_known message.stream message.function ≡ true
+    → takes_stream old.own message.stream ≡ true → is_known message.stream message.function ≡ true
     → found ≡ request_of message.stream message.function message.body → found ≡ Some asked
     → Takes (requested_turn now asked message old.own) old out new out_new result
     → Takes (known_turn now header message old.own) old out new out_new result

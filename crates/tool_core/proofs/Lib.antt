@@ -8,8 +8,11 @@ pub mod KeptLists
 pub mod Longer
 pub mod Lost
 pub mod OwnS1F13
+pub mod Owing
 pub mod Parting
 pub mod Reading
+pub mod RecipeTexts
+pub mod Served
 pub mod StartLines
 pub mod Storing
 pub mod Taking

@@ -5,6 +5,7 @@ pub mod Judged
 pub mod Late
 pub mod Node
 pub mod OwnS1F13
+pub mod Serving
 pub mod Setup
 pub mod Starting
 pub mod Turns

@@ -28,6 +28,7 @@ own_of own = record {
   ledger = own.ledger;
   tried = own.tried;
   owed = own.owed;
+  offers = own.offers;
   tracing = tracing_of own.tracing;
   events = own.events;
   has_begun = own.has_begun;

@@ -8,6 +8,7 @@ mod messages;
 mod noting;
 mod own;
 mod primaries;
+mod recipes;
 mod replies;
 mod routing;
 mod sampling;

@@ -1,6 +1,6 @@
 //! How the equipment treats a whole message of the host.
 
-ghost use Rattle.std.specs.Prelude.{IfOk, ◌≡◌, ◌<◌, ◌≤◌, ◌^◌, ◌∷◌, [], ◌++◌, length};
+ghost use Rattle.std.specs.Prelude.{IfOk, ◌≡◌, ◌<◌, ◌≤◌, ◌^◌, ◌∷◌, [], length};
 ghost use Rattle.block_codec.specs.Protocol.{longest_text};
 ghost use Rattle.block_codec.specs.Header.{Fits};
 ghost use Rattle.secs_items.specs.Checking.{check_of};
@@ -23,7 +23,7 @@ use crate::sending::note_dropped;
 use crate::setup::{KeptSetup, NextSetup, change, has_space_code, note_keeping, untold};
 use block_codec::Header;
 use equipment_tables::{Answer, bounded, request_of};
-use gem_shapes::{Request, TablesRequest, code_item, is_known, is_known_stream};
+use gem_shapes::{Request, TablesRequest, code_item, is_known};
 use gem_states::{CommsIn, ControlIn, ControlOut};
 use gem_trace::TraceRequest;
 use gl_base::{NoMemory, Row};
@@ -224,7 +224,7 @@ impl Tool {
         ensures does { TakesTurn (known_turn now header.now message.now) self.old out.old self.new out.new result }
         ensures line { out.new.line ≡ out.old.line }
     {
-        if !is_known_stream(message.stream) {
+        if !self.own.takes_stream(message.stream) {
             return self.tell_error(alloc, 3, header, out);
         }
         if !is_known(message.stream, message.function) {
@@ -298,6 +298,11 @@ impl Tool {
     {
         match self.own.owed.take() {
             Some(Owed::Keep(primary)) => self.accept_kept(alloc, &primary, out),
+            Some(Owed::Answered(given, primary)) => {
+                self.answer_recipes(alloc, &given, &primary, out)
+            }
+            // (they are asked before, behind the works)
+            Some(Owed::Recipes(_, _)) => Ok(()),
             None => Ok(()),
         }
     }
@@ -335,6 +340,7 @@ impl Tool {
     {
         match request {
             Request::OfTables(asked) => self.answer(alloc, asked, message, out),
+            Request::OfRecipes(asked) => self.ask_recipes(alloc, asked, message, out),
             Request::Establish => self.abort(alloc, message, out),
             Request::GoOffline => self.ask_control(alloc, ControlIn::RequestOffline, message, out),
             Request::GoOnline => self.ask_control(alloc, ControlIn::RequestOnline, message, out),

@@ -65,8 +65,9 @@ pub struct Tracing {
 
 /// What the equipment keeps beside the core: its plan and tables, the setup that its file keeps, if it has room for
 /// one, its two state models, the reports that wait for their grants, those that aren't answered yet, what becomes of
-/// the spool, the system bytes with which a message of it was tried last, what this step asks of an object outside, its
-/// traces, how many events have happened since the start, and whether its first step is over.
+/// the spool, the system bytes with which a message of it was tried last, what this step asks of an object outside,
+/// whether a host is offered recipes, its traces, how many events have happened since the start, and whether its first
+/// step is over.
 #[derive(Drop)]
 pub struct Own {
     pub plan: Planned,
@@ -79,6 +80,7 @@ pub struct Own {
     pub ledger: Ledger,
     pub tried: Option<u32>,
     pub owed: Option<Owed>,
+    pub offers: bool,
     pub tracing: Tracing,
     pub events: u32,
     pub has_begun: bool,
@@ -180,6 +182,7 @@ impl Own {
             ledger,
             tried: None,
             owed: None,
+            offers: false,
             tracing: Tracing::new(alloc),
             events: 0,
             has_begun: false,

@@ -9,7 +9,7 @@ returns-in-Some-clause-does c =
     read_so (Unit {0}) c.args.now c.args.header.now c.args.message.now c.in_ok-request.field-0 c.in-Some.request
     (node_of c.args.self.now) (node_of c.heed_request.new.self) c.args.out.now c.heed_request.new.out
     c.heed_request.result
-    (sym c.is_known_stream.ensures ∙ c.if-not-is_known_stream.false) (sym c.is_known.ensures ∙ c.if-not-is_known.false)
+    (sym c.takes_stream.ensures ∙ c.if-not-takes_stream.false) (sym c.is_known.ensures ∙ c.if-not-is_known.false)
     (c.in_ok-request.ensures.found
     ∙ ap (λ (body : List ℕ). request_of c.args.message.now.stream c.args.message.now.function body)
     c.as_slice-body.ensures)
