@@ -31,6 +31,8 @@ use Rattle.spool_ledger.specs.Ledger.{LedgerView, new_ledger}
 use Rattle.spool_ledger.proofs.Widths.{widths-long}
 use Rattle.equipment_tables.specs.declared.plan.EquipmentPlan.{EquipmentPlan}
 use Rattle.equipment_tables.specs.Plan.{EquipmentPlanFits}
+use Rattle.gem_recipes.specs.declared.no_recipes.NoRecipes.{NoRecipes}
+use Rattle.equipment_node.specs.Keeping.{no_keeper}
 use Rattle.equipment_node.specs.declared.equipment.Starting.{Starting}
 use Rattle.equipment_node.specs.declared.equipment.Starting.TheVariants as starting
 use Rattle.tool_step.specs.declared.kind.Kind.{Kind}
@@ -162,7 +164,7 @@ module _ {D : Type 0} (members : disk.Ghosts D) (plan : EquipmentPlan) (g : GemS
     -- no system bytes are left
     pub none-left :
         (h : GemSpool D) (spent : Device D) → ReservesFrom members g h None → spent.disk ≡ h.spool.disk
-        → StartsOver members plan file out_old (Err (starting.NumbersSpent spent))
+        → StartsOver members plan file out_old (Err (starting.NumbersSpent spent no_keeper))
     none-left h spent done same = (
       empty,
       (let none = done.1 in let mark = stands.mark in grind (arith, nat_tests, none, mark)),
@@ -176,7 +178,7 @@ module _ {D : Type 0} (members : disk.Ghosts D) (plan : EquipmentPlan) (g : GemS
     pub start-failed :
         (spent : Device D)
         → ((s : Story) → members.told g.spool.disk ≡ Some s → GoesThrough s (members.told spent.disk) (IsMarked st))
-        → StartsOver members plan file out_old (Err (starting.DiskFailed spent))
+        → StartsOver members plan file out_old (Err (starting.DiskFailed spent no_keeper))
     start-failed spent moments = (
       empty,
       λ t is image image_is.
@@ -211,7 +213,8 @@ module _ {D : Type 0} (members : disk.Ghosts D) (plan : EquipmentPlan) (g : GemS
             ∙ ap (λ (ns : List ℕ). first_in file + sum ns) (sym widths-are)
 
         pub started :
-            (result : Result (Held D) (Starting D)) → StartsWith plan h setup sizes base out_old out_new result
+            (result : Result (Held D NoRecipes) (Starting D NoRecipes))
+            → StartsWith plan h setup sizes base out_old out_new result
             → StartsOver members plan file out_new result
         started (Ok e) is = record {
           room = let left = done.0.0.0 in let mark = stands.mark in grind (arith, nat_tests, left, mark);
@@ -255,22 +258,22 @@ module _ {D : Type 0} (members : disk.Ghosts D) (plan : EquipmentPlan) (g : GemS
 
             standing_next : ℕ
             standing_next = first_in file + sum (map width file.list)
-        started (Err (starting.NoMemory spent)) is = (
+        started (Err (starting.NoMemory spent keeper)) is = (
           ap (λ l. l.items) line ∙ empty.line,
           λ t told image image_is.
               marked-as st image version-is
               (inr (kept-of members h.spool (reserved st) spent is marked t told image image_is)),
         )
-        started (Err (starting.NumbersSpent spent)) is = absurd is
-        started (Err (starting.DiskFailed spent)) is = absurd is
-        started (Err (starting.NotSpool raw break)) is = absurd is
+        started (Err (starting.NumbersSpent spent keeper)) is = absurd is
+        started (Err (starting.DiskFailed spent keeper)) is = absurd is
+        started (Err (starting.NotSpool raw break keeper)) is = absurd is
 
 -- ---- over the file as it was found
 
 -- a start over a file of version 2 is one over the file that became it
 pub over-upgraded :
     {D : Type 0} (members : disk.Ghosts D) (plan : EquipmentPlan) (file : SpoolFile) (out : StepOut)
-    (result : Result (Held D) (Starting D)) → StartsOver members plan (upgraded file) out result
+    (result : Result (Held D NoRecipes) (Starting D NoRecipes)) → StartsOver members plan (upgraded file) out result
     → StartsOver members plan file out result
 over-upgraded members plan file out (Ok h) is = record {
   room = is.room;
@@ -280,20 +283,21 @@ over-upgraded members plan file out (Ok h) is = record {
   notes = is.notes;
   quiet = is.quiet;
 }
-over-upgraded members plan file out (Err (starting.NumbersSpent spent)) is = is
-over-upgraded members plan file out (Err (starting.DiskFailed spent)) is =
+over-upgraded members plan file out (Err (starting.NumbersSpent spent keeper)) is = is
+over-upgraded members plan file out (Err (starting.DiskFailed spent keeper)) is =
     (is.0, λ t told image image_is. had-mark file image (is.1 t told image image_is))
-over-upgraded members plan file out (Err (starting.NoMemory spent)) is =
+over-upgraded members plan file out (Err (starting.NoMemory spent keeper)) is =
     (is.0, λ t told image image_is. had-mark file image (is.1 t told image image_is))
-over-upgraded members plan file out (Err (starting.NotSpool raw break)) is = absurd is
+over-upgraded members plan file out (Err (starting.NotSpool raw break keeper)) is = absurd is
 
 -- nothing is noted where the spool wasn't made ready
 pub unready-over :
     {D : Type 0} (members : disk.Ghosts D) (plan : EquipmentPlan) (old : D) (file : SpoolFile) (out : StepOut)
-    → IsEmpty out → (why : Starting D) → IsUnready members old file why → StartsOver members plan file out (Err why)
-unready-over members plan old file out empty (starting.NoMemory spent) is =
+    → IsEmpty out → (why : Starting D NoRecipes) → IsUnready members old file why
+    → StartsOver members plan file out (Err why)
+unready-over members plan old file out empty (starting.NoMemory spent keeper) is =
     (empty.line, λ t told image image_is. either-mark file image (is.1 t told image image_is))
-unready-over members plan old file out empty (starting.DiskFailed spent) is =
+unready-over members plan old file out empty (starting.DiskFailed spent keeper) is =
     (empty, λ t told image image_is. either-mark file image (is.1 t told image image_is))
-unready-over members plan old file out empty (starting.NumbersSpent spent) is = absurd is
-unready-over members plan old file out empty (starting.NotSpool raw break) is = absurd is
+unready-over members plan old file out empty (starting.NumbersSpent spent keeper) is = absurd is
+unready-over members plan old file out empty (starting.NotSpool raw break keeper) is = absurd is

@@ -6,7 +6,7 @@ use Rattle.disk_base.specs.Story.{Story}
 use Rattle.gem_spool.specs.Standing.{Standing}
 use Rattle.message_flow.specs.declared.step.Note.{Note}
 use Rattle.trace_log.specs.Log.{Happening}
-use Rattle.message_end.specs.Ends.{Loss, printed}
+use Rattle.message_end.specs.Ends.{printed}
 use Rattle.equipment_node.specs.Breaking.{HasBrokenAt}
 use Rattle.spool_works.specs.Breaking.{HasLeftAt}
 use Rattle.spool_works.specs.DiskWorks.{DiskWork, standings_behind}

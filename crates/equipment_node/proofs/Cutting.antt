@@ -1,6 +1,6 @@
 -- The notes up to the line of a work that failed are those of the definition.
 use Rattle.std.proofs.Common.{◌≡◌, refl, sym, ap, ◌∙◌, inl, inr, ◌⊎◌, zero, suc, Bool, true, false, ℕ, List, [], ◌∷◌}
-use Rattle.std.proofs.Common.{◌++◌, append_assoc, length, map, Option, Some, None, if◌then◌else◌}
+use Rattle.std.proofs.Common.{◌++◌, append_assoc, length, Option, Some, None, if◌then◌else◌}
 use Rattle.std.specs.List.{cons_option, slice_get}
 use Rattle.gem_spool.specs.declared.works.Work.{Work}
 use Rattle.message_flow.specs.declared.step.Note.{Note}

@@ -19,6 +19,8 @@ use Rattle.message_end.proofs.Leaving.{read-parts}
 use Rattle.spool_slots.specs.Spool.{SpoolView}
 use Rattle.spool_ledger.specs.Ledger.{LedgerView}
 use Rattle.tool_step.specs.declared.kind.Kind.{Kind}
+use Rattle.tool_law.proofs.Offers.{IsOffered, first-offered, offered-after}
+use Rattle.equipment_node.proofs.Opened.{opened-recipes}
 use Rattle.equipment_node.specs.Amid.{HasOpened, IsBegun, IsCounted, IsReady, IsSoundOwn, StopsAt, opened}
 use Rattle.tool_core.specs.Calls.{IsReached, IsSpent}
 use Rattle.tool_step.specs.Equipment.{EquipmentView, begun_step, file_step, parts_done, went_with_file}
@@ -87,6 +89,12 @@ module _ (input : Input ToolCommand) (now : ℕ) (old mid : Node OwnView Kind) (
           };
         }
 
+    -- what a host is offered stays
+    pub first-offers : code_went ≡ Goes (on_the_way mid middle) → IsOffered old.own mid.own
+    first-offers done =
+        subst (λ (w : Went (Node OwnView Kind) Note). IsOffered old.own (step_in w).next.own) done
+        (offered-after printed_note parts (first-offered input now) (on_the_way old out))
+
     -- also where a number was wanting
     pub spent-counted :
         {D : Type 0} (members : disk.Ghosts D) (v : SpoolView D) → IsReady members v old → (end : Stop)
@@ -146,6 +154,7 @@ module _ (input : Input ToolCommand) (now : ℕ) (old mid : Node OwnView Kind) (
               is = begins ∙ ap (went_with_file (opened s)) is;
               node_is = ap (λ (x : Step (Node OwnView Kind) Note). x.next) (same-step whole);
               file = refl;
+              recipes = opened-recipes members s;
               notes = sym (ap (λ (x : Step (Node OwnView Kind) Note). x.notes) (same-step whole));
               written = sym (ap (λ (x : Step (Node OwnView Kind) Note). x.written) (same-step whole));
             }

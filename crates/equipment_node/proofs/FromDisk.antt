@@ -31,6 +31,8 @@ use Rattle.message_end.specs.Core.{Step, Went, at_first, step_in}
 use Rattle.message_end.specs.Core.Went.{Goes, Spent}
 use Rattle.message_end.specs.Ends.{Asked, IsNotStopped, Leaves, asked_both, reach_behind}
 use Rattle.equipment_tables.specs.declared.plan.EquipmentPlan.{EquipmentPlan}
+use Rattle.gem_recipes.specs.contracts.no_recipes.NoRecipesRecipeKeeper.TheImpl.{ghosts as no_keepers}
+use Rattle.gem_recipes.specs.declared.no_recipes.NoRecipes.{NoRecipes}
 use Rattle.equipment_node.specs.declared.equipment.Starting.{Starting}
 use Rattle.spool_works.specs.DiskWorks.{reserve_asks}
 use Rattle.spool_works.specs.Found.{first_in}
@@ -53,9 +55,11 @@ use Rattle.spool_works.specs.DiskCalls.{HasMade}
 use Rattle.equipment_node.proofs.BrokenSteps.{same-some}
 use Rattle.equipment_node.proofs.Reaching.{same-reach, written-behind}
 use Rattle.equipment_node.proofs.Seated.{begun-ends, start-whole}
+use Rattle.equipment_node.proofs.StartOffering.{offers-none}
 
 -- where another call is planned it is the same equipment
-armed-in : (h : Held DiskState) (call : ℕ) → IsIn ghosts h → IsIn ghosts (with_stop call h)
+armed-in : (h : Held DiskState NoRecipes) (call : ℕ) → IsIn ghosts no_keepers h
+    → IsIn ghosts no_keepers (with_stop call h)
 armed-in h call is = record {
   on = record {
     clear = record {
@@ -73,9 +77,10 @@ armed-in h call is = record {
     made = is.on.made;
   };
   told = is.told;
+  kept = is.kept;
 }
 
-pub armed-power : (plan : EquipmentPlan) (h : Held DiskState) (call : ℕ) → HasPower ghosts plan h
+pub armed-power : (plan : EquipmentPlan) (h : Held DiskState NoRecipes) (call : ℕ) → HasPower ghosts plan h
     → HasPower ghosts plan (with_stop call h)
 armed-power plan h call is = record {
   in_state = armed-in h call is.in_state;
@@ -221,7 +226,8 @@ bounded-by d e calls made is =
     let kept = made.used.bounds_kept in
     (ap (λ (w : ℕ × ℕ). w.0) kept ∙ is.0, ap (λ (w : ℕ × ℕ). w.1) kept ∙ is.1)
 
-module _ (h : Held DiskState) (in_state : IsIn ghosts h) (sure : IsSureDisk (disk_health h.spool.spool.disk)) where
+module _ (h : Held DiskState NoRecipes) (in_state : IsIn ghosts no_keepers h)
+    (sure : IsSureDisk (disk_health h.spool.spool.disk)) where
   pub seated-power :
       (plan : EquipmentPlan) → IsBounded h.spool.spool.disk → HasFitted h.spool.spool.disk
       → (node_of h.tool).own.plan ≡ plan → HasPower ghosts plan h
@@ -239,8 +245,8 @@ module _ (h : Held DiskState) (in_state : IsIn ghosts h) (sure : IsSureDisk (dis
       (d : DiskState) (file : SpoolFile) → file.version ≡ 2
       → HasMade ghosts d h.spool.spool.disk ((setup_looks file ++ ready_calls file) ++ reserve_calls file)
       → IsBounded d
-      → asked_of d ≡ making file.slots → (view_in ghosts h).file ≡ with_mark_moved (upgraded file)
-      → disk_reach h.spool.spool.disk ≡ reach_behind (machine.first_use (view_in ghosts h))
+      → asked_of d ≡ making file.slots → (view_in ghosts no_keepers h).file ≡ with_mark_moved (upgraded file)
+      → disk_reach h.spool.spool.disk ≡ reach_behind (machine.first_use (view_in ghosts no_keepers h))
   first-reach d file version made bounded asked file_is =
       let calls = ap (λ (a : Asked). a.calls) asked in
       let bytes = ap (λ (a : Asked). a.bytes) asked in
@@ -279,9 +285,9 @@ start-file plan file step = go (is_marked_out file.mark.value)
     go false is = ap (λ (x : Step EquipmentView Happening). x.next.file) (sym (same-step is))
 
 pub start-file-is :
-    (plan : EquipmentPlan) (file : SpoolFile) (h : Held DiskState) (out : StepOut)
+    (plan : EquipmentPlan) (file : SpoolFile) (h : Held DiskState NoRecipes) (out : StepOut)
     → HasStartedOver ghosts plan file h out
-    → (view_in ghosts h).file ≡ with_mark_moved (upgraded file)
+    → (view_in ghosts no_keepers h).file ≡ with_mark_moved (upgraded file)
 start-file-is plan file h out is =
     sym
     (same_file ghosts h.spool.spool (standing_in (started_on plan file).next) is.clear.stands
@@ -289,14 +295,15 @@ start-file-is plan file h out is =
 
 -- it doesn't go on
 pub not-anew :
-    (plan : EquipmentPlan) (went : Went EquipmentView Happening) (going : Option (Held DiskState)) → going ≡ None
+    (plan : EquipmentPlan) (went : Went EquipmentView Happening) (going : Option (Held DiskState NoRecipes))
+    → going ≡ None
     → (out : StepOut) (why : Stop) → Leaves ([] ∷ []) false went (state_in ghosts plan going) out (Err why)
     → IsNotStopped {R = Unit {0}} (Err why) → (unmet : ℕ) → StartsAnew ghosts plan went going unmet out (Err why)
 not-anew plan went going gone out why leaves whole unmet = record {
   start = leaves;
   whole = whole;
   reach = tt;
-  sound = subst (λ (o : Option (Held DiskState)). IsWhole ghosts plan o None) (sym gone) tt;
+  sound = subst (λ (o : Option (Held DiskState NoRecipes)). IsWhole ghosts plan o None) (sym gone) tt;
 }
 
 module _ (plan : EquipmentPlan) (disk : DiskState) (is : IsStartable disk) (out : StepOut) where
@@ -304,7 +311,7 @@ module _ (plan : EquipmentPlan) (disk : DiskState) (is : IsStartable disk) (out 
   file = file_in disk.story.now.bytes
 
   pub anew-on :
-      (h : Held DiskState) (unmet : ℕ) → HasBegunOn ghosts plan disk.story.now.bytes out h
+      (h : Held DiskState NoRecipes) (unmet : ℕ) → HasBegunOn ghosts no_keepers plan disk.story.now.bytes out h
       → HasMade ghosts disk h.spool.spool.disk (start_calls (file_in disk.story.now.bytes))
       → KeepsSure ghosts disk h.spool.spool.disk → HasFitted h.spool.spool.disk
       → StartsAnew ghosts plan (starts_over plan disk) (Some h) unmet out (Ok tt)
@@ -322,7 +329,7 @@ module _ (plan : EquipmentPlan) (disk : DiskState) (is : IsStartable disk) (out 
             (sym (start-file plan file begun.gone.step begun.gone.is)
             ∙ ap (λ (s : EquipmentView). s.file) begun.gone.next_is);
         sound =
-            seated-power h (begun.can_go is.can) (keeps is.sure) plan bounded fitted
+            seated-power h (begun.can_go is.can (offers-none h.keeper)) (keeps is.sure) plan bounded fitted
             (sym (ap (λ (went : Went EquipmentView Happening). (step_in went).next.node.own.plan) begun.gone.is
             ∙ ap (λ (s : EquipmentView). s.node.own.plan) begun.gone.next_is)
             ∙ start-plan plan (file_in disk.story.now.bytes));
@@ -332,7 +339,8 @@ module _ (plan : EquipmentPlan) (disk : DiskState) (is : IsStartable disk) (out 
       asks = start-asks file is.version
 
   pub anew-off :
-      (why : Starting DiskState) → Begins ghosts plan disk.story out (Err why) → (going : Option (Held DiskState))
+      (why : Starting DiskState NoRecipes) → Begins ghosts no_keepers plan disk.story out (Err why)
+      → (going : Option (Held DiskState NoRecipes))
       → going ≡ None → (told : Stop) → told ≡ stop_at_start why → (unmet : ℕ)
       → StartsAnew ghosts plan (starts_over plan disk) going unmet out (Err told)
   anew-off why begins going gone told told_is unmet =
@@ -354,18 +362,19 @@ cut-startable lost is choice = record {
 }
 
 pub power-in :
-    (plan : EquipmentPlan) (going : Option (Held DiskState)) (lost : Option DiskState) (h : Held DiskState)
+    (plan : EquipmentPlan) (going : Option (Held DiskState NoRecipes)) (lost : Option DiskState)
+    (h : Held DiskState NoRecipes)
     → going ≡ Some h → IsWhole ghosts plan going lost → HasPower ghosts plan h × (lost ≡ None)
 power-in plan going lost h same is =
-    go lost (subst (λ (o : Option (Held DiskState)). IsWhole ghosts plan o lost) same is)
+    go lost (subst (λ (o : Option (Held DiskState NoRecipes)). IsWhole ghosts plan o lost) same is)
   where
     go : (lost : Option DiskState) → IsWhole ghosts plan (Some h) lost → HasPower ghosts plan h × (lost ≡ None)
     go None is = (is, refl)
     go (Some lost) is = absurd is
 
 -- a disk that nothing is asked of keeps its bytes
-module _ (plan : EquipmentPlan) (h : Held DiskState) (is : HasPower ghosts plan h) where
-  ends : Ends h.spool.spool.disk.story (view_in ghosts h).file
+module _ (plan : EquipmentPlan) (h : Held DiskState NoRecipes) (is : HasPower ghosts plan h) where
+  ends : Ends h.spool.spool.disk.story (view_in ghosts no_keepers h).file
   ends = is.in_state.on.clear.stands.file h.spool.spool.disk.story refl
 
   same-image : (choice : CutChoice) → image_of choice h.spool.spool.disk.story ≡ h.spool.spool.disk.story.now.bytes
@@ -376,7 +385,7 @@ module _ (plan : EquipmentPlan) (h : Held DiskState) (is : HasPower ghosts plan 
       (ap (λ (loose : List (ℕ × ℕ)). length (settled_if loose story.now.bytes (settled_before story.past)))
       ends.settled))
 
-  same-cut : (choice : CutChoice) → file_cut h.spool.spool.disk choice ≡ (view_in ghosts h).file
+  same-cut : (choice : CutChoice) → file_cut h.spool.spool.disk choice ≡ (view_in ghosts no_keepers h).file
   same-cut choice = ap file_in (same-image choice) ∙ sym ends.stands.is
 
   power-lost : IsLost h.spool.spool.disk
@@ -392,16 +401,16 @@ module _ (plan : EquipmentPlan) (h : Held DiskState) (is : HasPower ghosts plan 
       → starts_over plan (after_cut choice h.spool.spool.disk) ≡ anew_over ghosts plan (Some h) None choice now
   power-anew choice now =
       ap (λ (file : SpoolFile). starts plan file) (same-cut choice)
-      ∙ ap (λ (p : EquipmentPlan). starts p (view_in ghosts h).file) (sym is.plan_is)
+      ∙ ap (λ (p : EquipmentPlan). starts p (view_in ghosts no_keepers h).file) (sym is.plan_is)
 
 -- whichever disk there is, a start anew finds what it is left with
 module _ (plan : EquipmentPlan) (disk : DiskState) (choice : CutChoice) (now : ℕ) where
   -- it is lost then, and a start over what it is left with is the start anew
-  abbrev IsAnew : DiskState → Option (Held DiskState) → Option DiskState → Type 0
+  abbrev IsAnew : DiskState → Option (Held DiskState NoRecipes) → Option DiskState → Type 0
   IsAnew d going lost =
       IsLost d × (starts_over plan (after_cut choice d) ≡ anew_over ghosts plan going lost choice now)
 
-  anew-of : (going : Option (Held DiskState)) (lost : Option DiskState) → IsWhole ghosts plan going lost
+  anew-of : (going : Option (Held DiskState NoRecipes)) (lost : Option DiskState) → IsWhole ghosts plan going lost
       → disk_of lost going ≡ Some disk → IsAnew disk going lost
   anew-of None (Some lost) is same =
       subst (λ (d : DiskState). IsAnew d None (Some lost)) (let one : lost ≡ disk = cc in one) (is, refl)
@@ -413,16 +422,16 @@ module _ (plan : EquipmentPlan) (disk : DiskState) (choice : CutChoice) (now : �
 
   -- by what was taken out of it
   pub restarted :
-      (going going_taken : Option (Held DiskState)) (lost lost_taken found : Option DiskState)
+      (going going_taken : Option (Held DiskState NoRecipes)) (lost lost_taken found : Option DiskState)
       → found ≡ disk_of lost_taken going_taken → lost_taken ≡ lost → going_taken ≡ going → found ≡ Some disk
-      → IsWhole ghosts plan going lost → (new : EquipmentPlan) (after : Option (Held DiskState)) (unmet : ℕ)
+      → IsWhole ghosts plan going lost → (new : EquipmentPlan) (after : Option (Held DiskState NoRecipes)) (unmet : ℕ)
       (out : StepOut) (result : Result (Unit {0}) Stop)
       → (IsLost disk → StartsAnew ghosts new (starts_over plan (after_cut choice disk)) after unmet out result)
       → StartsAnew ghosts new (anew_over ghosts plan going lost choice now) after unmet out result
   restarted going going_taken lost lost_taken found found_is lost_is going_is some is new after unmet out result anew =
       let same =
       sym (found_is ∙ ap (λ (o : Option DiskState). disk_of o going_taken) lost_is
-      ∙ ap (λ (o : Option (Held DiskState)). disk_of lost o) going_is) ∙ some in
+      ∙ ap (λ (o : Option (Held DiskState NoRecipes)). disk_of lost o) going_is) ∙ some in
       let both = anew-of going lost is same in
       subst (λ (went : Went EquipmentView Happening). StartsAnew ghosts new went after unmet out result) both.1
       (anew both.0)

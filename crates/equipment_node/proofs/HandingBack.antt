@@ -27,15 +27,17 @@ use Rattle.message_end.specs.Parts.{Node}
 use Rattle.equipment_tables.specs.declared.plan.EquipmentPlan.{EquipmentPlan}
 use Rattle.spool_works.specs.declared.ended.Ended.{Ended}
 use Rattle.spool_works.specs.declared.ended.Ended.TheVariants as ended
+use Rattle.gem_recipes.specs.declared.no_recipes.NoRecipes.{NoRecipes}
 use Rattle.equipment_node.specs.declared.equipment.Starting.{Starting}
 use Rattle.equipment_node.specs.declared.equipment.Starting.TheVariants as starting
 use Rattle.tool_step.specs.declared.kind.Kind.{Kind}
-use Rattle.equipment_node.specs.Amid.{Carries, DoesLast}
+use Rattle.equipment_node.specs.Amid.{Carries, DoesLast, Worked, disk_worked}
 use Rattle.tool_core.specs.Calls.{IsReached}
 use Rattle.spool_works.proofs.OwedWorks.{owed-back, owed-failed}
 use Rattle.spool_works.specs.HandedBack.{HandsBack, HasFailed, IsEnded, IsKept}
-use Rattle.equipment_node.specs.HandedBack.{StartHandsBack}
+use Rattle.equipment_node.specs.HandedBack.{StartHandsBack, WorksHandBack}
 use Rattle.equipment_node.specs.Held.{Held, starting_by}
+use Rattle.equipment_node.specs.Keeping.{no_keeper}
 use Rattle.tool_step.specs.Own.{OwnView, ToolPart}
 use Rattle.equipment_node.specs.StartOver.{StartsWith}
 
@@ -82,6 +84,11 @@ module _ {D : Type 0} (members : disk.Ghosts D) where
       → HandsBack members b result → HandsBack members a result
   handed-then a b (Ok g) one two = kept-then a b g.spool.disk one two
   handed-then a b (Err end) one two = ended-then a b end one two
+
+  pub worked-then : (a b : D) (result : Result (Worked D) (Ended D)) → IsKept members a b
+      → WorksHandBack members b result → WorksHandBack members a result
+  worked-then a b (Ok worked) one two = kept-then a b (disk_worked worked) one two
+  worked-then a b (Err end) one two = ended-then a b end one two
 
   -- ---- works
 
@@ -143,28 +150,28 @@ module _ {D : Type 0} (members : disk.Ghosts D) where
 
   pub untaken-back :
       (old : D) (why : Recovering D) → Recovers members old (Err why)
-      → StartHandsBack members old (Err (starting_by why))
+      → StartHandsBack members old (Err (starting_by no_keeper why))
   untaken-back old (recovering.NotSpool raw break) is = recovered-back old raw.disk _ is.0
   untaken-back old (recovering.Failed spent) (inl is, by) = record { same_disk = is.same_disk; rose = is.cause.rose }
   untaken-back old (recovering.Failed spent) (inr is, by) = unread-back old spent.disk _ is
 
   pub seated-back :
       (plan : EquipmentPlan) (g : GemSpool D) (setup : Option (List Entry)) (sizes : List ℕ) (base : ℕ)
-      (out after : StepOut) (result : Result (Held D) (Starting D))
+      (out after : StepOut) (result : Result (Held D NoRecipes) (Starting D NoRecipes))
       → StartsWith plan g setup sizes base out after result
       → StartHandsBack members g.spool.disk result
   seated-back plan g setup sizes base out after (Ok h) starts =
       subst (λ (x : GemSpool D). IsKept members g.spool.disk x.spool.disk) (sym starts.0) (kept-still g.spool.disk)
-  seated-back plan g setup sizes base out after (Err (starting.NoMemory spent)) starts =
+  seated-back plan g setup sizes base out after (Err (starting.NoMemory spent keeper)) starts =
       kept-at g.spool.disk spent.disk starts
-  seated-back plan g setup sizes base out after (Err (starting.NumbersSpent spent)) starts = absurd starts
-  seated-back plan g setup sizes base out after (Err (starting.DiskFailed spent)) starts = absurd starts
-  seated-back plan g setup sizes base out after (Err (starting.NotSpool raw break)) starts = absurd starts
+  seated-back plan g setup sizes base out after (Err (starting.NumbersSpent spent keeper)) starts = absurd starts
+  seated-back plan g setup sizes base out after (Err (starting.DiskFailed spent keeper)) starts = absurd starts
+  seated-back plan g setup sizes base out after (Err (starting.NotSpool raw break keeper)) starts = absurd starts
 
-  pub start-then : (a b : D) (result : Result (Held D) (Starting D)) → IsKept members a b
+  pub start-then : (a b : D) (result : Result (Held D NoRecipes) (Starting D NoRecipes)) → IsKept members a b
       → StartHandsBack members b result → StartHandsBack members a result
   start-then a b (Ok h) one two = kept-then a b h.spool.spool.disk one two
-  start-then a b (Err (starting.NoMemory spent)) one two = kept-then a b spent.disk one two
-  start-then a b (Err (starting.NotSpool raw break)) one two = kept-then a b raw.disk one two
-  start-then a b (Err (starting.DiskFailed spent)) one two = failed-then a b spent.disk one two
-  start-then a b (Err (starting.NumbersSpent spent)) one two = kept-then a b spent.disk one two
+  start-then a b (Err (starting.NoMemory spent keeper)) one two = kept-then a b spent.disk one two
+  start-then a b (Err (starting.NotSpool raw break keeper)) one two = kept-then a b raw.disk one two
+  start-then a b (Err (starting.DiskFailed spent keeper)) one two = failed-then a b spent.disk one two
+  start-then a b (Err (starting.NumbersSpent spent keeper)) one two = kept-then a b spent.disk one two

@@ -1,5 +1,6 @@
 -- That the parts behind the works come to the end of a step.
-use Rattle.std.proofs.Common.{◌≡◌, refl, sym, ap, subst, ◌∙◌, arith, ℕ, ◌+◌, ◌<◌, ◌≤◌, ◌%◌, List, [], ◌∷◌, length, Option, Some, None}
+use Rattle.std.proofs.Common.{◌≡◌, inr, refl, sym, ap, subst, ◌∙◌, arith, ℕ, ◌+◌, ◌<◌, ◌≤◌, ◌%◌, List, [], ◌∷◌}
+use Rattle.std.proofs.Common.{length, Option, Some, None}
 use Rattle.std.specs.Prelude.{Result, Ok, Err, sum}
 use Rattle.std.specs.List.{slice_get}
 use Rattle.std.specs.Option.{option_map}
@@ -32,13 +33,16 @@ use Rattle.equipment_tables.specs.Tables.{most_transmitted}
 use Rattle.spool_works.specs.declared.ended.Ended.{Ended}
 use Rattle.spool_works.specs.declared.ended.Ended.TheVariants as ended
 use Rattle.tool_step.specs.declared.kind.Kind.{Kind}
-use Rattle.equipment_node.specs.Amid.{DoesLast, EndsSo, IsAt, asked_node, done_last}
+use Rattle.equipment_node.specs.Amid.{DoesLast, EndsSo, HasEnded, HasEndedSpent, IsAt, Keeps, ServesLast, asked_node}
+use Rattle.equipment_node.specs.Amid.{done_last, served_node}
 use Rattle.tool_step.specs.Disk.{standing_in}
-use Rattle.tool_step.specs.Equipment.{EquipmentView, file_step, node_step, oldest_of, with_node, went_with_file}
+use Rattle.tool_step.specs.Equipment.{EquipmentView, file_step, node_step, oldest_of, served_step, with_node}
+use Rattle.tool_step.specs.Equipment.{went_with_file}
 use Rattle.spool_works.specs.Found.{spooled_of}
 use Rattle.tool_step.specs.Own.{OwnView, ToolDuty, ToolPart, ToolTurn, turn_of, unowed}
 use Rattle.tool_step.specs.declared.owed.Owed.{Owed}
-use Rattle.tool_step.specs.declared.owed.Owed.TheVariants.{Keep}
+use Rattle.tool_step.specs.declared.owed.Owed.TheVariants.{Answered, Keep, Recipes}
+use Rattle.tool_step.specs.Recipes.{owes_recipes, recipes_text}
 use Rattle.tool_step.specs.Sent.{answer_duties, text_of}
 use Rattle.tool_step.specs.Setup.{accepted_item}
 use Rattle.tool_step.specs.Spooling.{end_of_spooling, taking_turn, unload_part}
@@ -92,6 +96,14 @@ module _ {D : Type 0} (members : disk.Ghosts D) where
 
   -- ---- the parts
 
+  -- what the last parts alone come to
+  abbrev LastSo : ℕ → Step EquipmentView Happening → Node OwnView Kind → StepOut
+      → Result (GemSpool D) (Ended D) → Type 0
+  LastSo now t node out (Ok g) = HasEnded members now t node out g
+  LastSo now t node out (Err (ended.NumbersSpent spent)) = HasEndedSpent members now t out spent
+  LastSo now t node out (Err (ended.DiskFailed spent)) = ⊥
+  LastSo now t node out (Err (ended.NoMemory spent)) = Keeps members spent (standing_in t.next)
+
   -- one went as the other, but for what is kept beside the core where the numbers are spent
   abbrev pub GoesAs : Went (Node OwnView Kind) Note → Went (Node OwnView Kind) Note → Type 0
   GoesAs (Goes step) other = other ≡ Goes step
@@ -141,6 +153,8 @@ module _ {D : Type 0} (members : disk.Ghosts D) where
               (and_then (after_turn printed_note (owed_turn owed (unowed n.own)) (on_the_way n out))
               (after_parts printed_note (unload_part there ∷ rest)))
           go None = turned []
+          go (Some (Recipes asked primary)) = turned []
+          go (Some (Answered given primary)) = turned (answer_duties (recipes_text n.own given) primary)
           go (Some (Keep primary)) = turned (answer_duties (text_of n.own (accepted_item primary)) primary)
 
   module _ (now : ℕ) (t : Step EquipmentView Happening) (mid new : Node OwnView Kind) (out after : StepOut)
@@ -181,14 +195,14 @@ module _ {D : Type 0} (members : disk.Ghosts D) where
           (ap (λ (node : Node OwnView Kind). after_parts printed_note (done_last oldest now) (on_the_way node out))
           (sym asked) ∙ is) (answered-first now t.next.node out oldest (oldest_of t.next) same))
 
-      pub last-done :
+      last-done :
           (result : Result (GemSpool D) (Ended D))
           → DoesLast members g (done_last oldest now) mid out new after result
-          → EndsSo members now t new after result
+          → LastSo now t new after result
       last-done (Ok h) does = go went refl (come-to (Goes (on_the_way new after)) does.1)
         where
           go : (w : Went (Node OwnView Kind) Happening) → went ≡ w
-              → went_as printed_note w ≡ Goes (on_the_way new after) → EndsSo members now t new after (Ok h)
+              → went_as printed_note w ≡ Goes (on_the_way new after) → LastSo now t new after (Ok h)
           go (Goes step) is whole = record {
             step = file_step t.next step;
             is = ap (went_with_file t.next) is;
@@ -214,7 +228,7 @@ module _ {D : Type 0} (members : disk.Ghosts D) where
 
           go : (w : Went (Node OwnView Kind) Happening) → went ≡ w
               → went_as printed_note w ≡ Spent came.0
-              → EndsSo members now t new after (Err (ended.NumbersSpent spent))
+              → LastSo now t new after (Err (ended.NumbersSpent spent))
           go (Goes step) is whole = absurd (cc)
           go (Spent step) is whole = record {
             step = file_step t.next step;
@@ -231,6 +245,50 @@ module _ {D : Type 0} (members : disk.Ghosts D) where
           }
       last-done (Err (ended.DiskFailed spent)) does = absurd does
       last-done (Err (ended.NoMemory spent)) does =
+          kept-of members g.spool (standing_in t.next) spent does at.clear.stands
+
+  -- the recipes are asked, and then they are done
+  module _ (now : ℕ) (t : Step EquipmentView Happening) (mid new : Node OwnView Kind) (out after : StepOut)
+      (g : GemSpool D) (oldest : Option (ℕ × Spooled)) (at : IsAt members t t.next.node out g)
+      (asked : mid ≡ asked_node t.next.node)
+      (same : (e : EndView Kind)
+      → unload_part (oldest_of t.next) (unowed t.next.node.own) e
+      ≡ taking oldest (unowed (asked_node t.next.node).own) e)
+    where
+      served-at : IsAt members (served_step t) (served_step t).next.node out g
+      served-at = record {
+        node_is = refl;
+        clear = record {
+          stands = at.clear.stands;
+          owes = at.clear.owes;
+          sizes_are = at.clear.sizes_are;
+          slots_are = at.clear.slots_are;
+          version_is = at.clear.version_is;
+        };
+        told = at.told;
+        notes = at.notes;
+        written = at.written;
+      }
+
+      done : (result : Result (GemSpool D) (Ended D))
+          → DoesLast members g (done_last oldest now) (served_node t.next.recipes mid) out new after result
+          → LastSo now (served_step t) new after result
+      done =
+          last-done now (served_step t) (served_node t.next.recipes mid) new out after g oldest served-at
+          (ap (served_node t.next.recipes) asked) same
+
+      pub served-done :
+          (result : Result (GemSpool D) (Ended D))
+          → ServesLast members t.next.recipes g (done_last oldest now) mid out new after result
+          → EndsSo members now t new after result
+      served-done (Ok h) does = done (Ok h) does
+      served-done (Err (ended.NumbersSpent spent)) does = done (Err (ended.NumbersSpent spent)) does
+      served-done (Err (ended.DiskFailed spent)) does = (
+        inr (ap (λ (n : Node OwnView Kind). owes_recipes n.own.owed) (sym asked) ∙ does.1),
+        does.2 ∙ at.notes,
+        kept-of members g.spool (standing_in t.next) spent does.0 at.clear.stands,
+      )
+      served-done (Err (ended.NoMemory spent)) does =
           kept-of members g.spool (standing_in t.next) spent does at.clear.stands
 
   -- ---- how they begin

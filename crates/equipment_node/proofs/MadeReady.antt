@@ -25,6 +25,8 @@ use Rattle.spool_works.specs.DiskCalls.{HasFailedIn, HasMade}
 use Rattle.spool_works.specs.Found.{first_in}
 use Rattle.spool_works.specs.HandedBack.{IsKept}
 use Rattle.spool_works.proofs.Called.{failed-all, failed-before, failed-behind, made-all, made-same, made-then}
+use Rattle.gem_recipes.specs.declared.no_recipes.NoRecipes.{NoRecipes}
+use Rattle.equipment_node.specs.Keeping.{no_keeper}
 use Rattle.equipment_node.specs.declared.equipment.Starting.{Starting}
 use Rattle.equipment_node.specs.declared.equipment.Starting.TheVariants as starting
 use Rattle.equipment_node.specs.declared.sizes.Unsized.{Unsized}
@@ -116,7 +118,7 @@ module _ {D : Type 0} (members : disk.Ghosts D) (v : SpoolView D)
       -- memory was wanting
       unread :
           (sizes : List ℕ) → AreFirst members v sizes → HasRead members v u sizes
-          → MakesReady members v (Err (starting.NoMemory spent))
+          → MakesReady members v (Err (starting.NoMemory spent no_keeper))
       unread sizes front read = (
         subst (λ (d : D). IsKept members v.disk d) (sym same) read.kept,
         λ fresh.
@@ -139,9 +141,10 @@ module _ {D : Type 0} (members : disk.Ghosts D) (v : SpoolView D)
       )
 
       -- the disk failed
-      missed : (sizes : List ℕ) → HasMissed members v u sizes → MakesReady members v (Err (starting.DiskFailed spent))
+      missed : (sizes : List ℕ) → HasMissed members v u sizes
+          → MakesReady members v (Err (starting.DiskFailed spent no_keeper))
       missed sizes is = (
-        subst (λ (d : D). UnstartedBack members v.disk (starting.DiskFailed (record { disk = d }))) (sym same)
+        subst (λ (d : D). UnstartedBack members v.disk (starting.DiskFailed (record { disk = d }) no_keeper)) (sym same)
             is.faulted,
         λ fresh.
             let s = fresh.told.0 in
@@ -175,12 +178,12 @@ module _ {D : Type 0} (members : disk.Ghosts D) (v : SpoolView D)
               (size_looks v.slots (v.first + sum sizes + size) rest) failed)
 
       pub lacks : (why : Unsized) → why ≡ unsized.NoMemory → ReadsSizes members v u (Err why)
-          → MakesReady members v (Err (starting.NoMemory spent))
+          → MakesReady members v (Err (starting.NoMemory spent no_keeper))
       lacks unsized.Failed is reads = absurd (cc)
       lacks unsized.NoMemory is reads = unread reads.0 reads.1 reads.2
 
       pub fails : (why : Unsized) → why ≡ unsized.Failed → ReadsSizes members v u (Err why)
-          → MakesReady members v (Err (starting.DiskFailed spent))
+          → MakesReady members v (Err (starting.DiskFailed spent no_keeper))
       fails unsized.NoMemory is reads = absurd (cc)
       fails unsized.Failed is reads = missed reads.0 reads.1
 
@@ -206,7 +209,7 @@ module _ {D : Type 0} (members : disk.Ghosts D) (v : SpoolView D)
         -- the upgrade failed
         pub not-upgraded :
             (spent : Spent D) → UpgradesOnce members u (Err spent)
-            → MakesReady members v (Err (starting.DiskFailed spent))
+            → MakesReady members v (Err (starting.DiskFailed spent no_keeper))
         not-upgraded spent (one, done) = (
           failed-then members v.disk u.disk spent.disk read.kept
               (record { same_disk = done.0.made.same_disk; rose = done.0.made.calls.cause.rose }),
@@ -337,7 +340,7 @@ module _ {D : Type 0} (members : disk.Ghosts D) (v : SpoolView D)
               used-sure (members.health u.disk) (members.health w.disk) (length upgrade_calls)
               (written_by upgrade_calls) ups.0.made.calls.cause
 
-          pub made-ready : MakesReady members v (Ok (g, sizes))
+          pub made-ready : MakesReady {K = NoRecipes} members v (Ok (g, sizes))
           made-ready = record {
             known = in-known;
             sized = record {
@@ -378,8 +381,8 @@ module _ {D : Type 0} (members : disk.Ghosts D) (v : SpoolView D)
 -- a disk of which no call is to fail stays such in what comes behind
 pub ready-sure :
     {D : Type 0} (members : disk.Ghosts D) (v : SpoolView D) (g : GemSpool D) (sizes : List ℕ)
-    → IsMadeReady members v g sizes → (result : Result (Held D) (Starting D))
-    → IfOk result (λ (h : Held D). KeepsSure members g.spool.disk h.spool.spool.disk)
-    → IfOk result (λ (h : Held D). KeepsSure members v.disk h.spool.spool.disk)
+    → IsMadeReady members v g sizes → (result : Result (Held D NoRecipes) (Starting D NoRecipes))
+    → IfOk result (λ (h : Held D NoRecipes). KeepsSure members g.spool.disk h.spool.spool.disk)
+    → IfOk result (λ (h : Held D NoRecipes). KeepsSure members v.disk h.spool.spool.disk)
 ready-sure members v g sizes ready (Err why) keeps = tt
 ready-sure members v g sizes ready (Ok h) keeps = λ sure. keeps (ready.sure sure)

@@ -5,7 +5,6 @@ use Rattle.std.proofs.lemmas.List.{map-append}
 use Rattle.std.specs.Prelude.{slice_get}
 use Rattle.disk_base.specs.Calls.{DiskCall}
 use Rattle.disk_base.specs.Faults.{IsLeftOut}
-use Rattle.disk_base.specs.Story.{Story}
 use Rattle.disk_base.specs.declared.disk.Disk as disk
 use Rattle.disk_base.proofs.Stretches.{left_out_behind}
 use Rattle.gem_spool.specs.Standing.{Standing}

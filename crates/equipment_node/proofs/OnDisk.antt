@@ -1,5 +1,6 @@
 -- How the disk stands, and places among the works of a step.
 use Rattle.std.proofs.Common.{◌≡◌, refl, sym, ap, subst, ◌∙◌, inl, inr, arith, zero, suc, ◌≤◌, ◌&&◌, not, Bool, true, false, ℕ, List, [], ◌∷◌, ◌++◌, length, map, take, Option, Some, None, if◌then◌else◌}
+use Rattle.std.proofs.lemmas.List.Sums.{fold-append}
 use Rattle.std.specs.List.{slice_get}
 use Rattle.disk_base.specs.Story.{Story}
 use Rattle.disk_base.specs.declared.disk.Disk as disk
@@ -20,7 +21,7 @@ use Rattle.message_end.specs.Own.{Has}
 use Rattle.spool_ledger.specs.Ledger.{LedgerView, carried_out, next_of, stood_count}
 use Rattle.spool_ledger.specs.Sizes.{all_sizes_after}
 use Rattle.equipment_node.specs.Amid.{Keeps, WorksFit, opened}
-use Rattle.spool_works.specs.DiskWorks.{DiskWork, fronts_of, standings_behind}
+use Rattle.spool_works.specs.DiskWorks.{DiskWork, fronts_of, standing_behind, standings_behind}
 use Rattle.tool_step.specs.Disk.{standing_in}
 use Rattle.spool_works.specs.DiskWorks.DiskWork.{Change, Reserve}
 use Rattle.tool_step.specs.Equipment.{EquipmentView, is_marked_out, needs_numbers, reserved, reserving, settled_file}
@@ -141,6 +142,16 @@ pub placed-standing : (is : Bool) (st : Standing) (works : List DiskWork) (at : 
     ≡ standings_behind (if is then marked st else st) (take at works)
 placed-standing true st works at = refl
 placed-standing false st works at = refl
+
+pub placed-whole : (is : Bool) (st : Standing) (works : List DiskWork)
+    → standings_behind st (reserves is ++ works) ≡ standings_behind (if is then marked st else st) works
+placed-whole true st works = refl
+placed-whole false st works = refl
+
+-- some works behind others
+pub behind-both : (st : Standing) (one two : List DiskWork)
+    → standings_behind st (one ++ two) ≡ standings_behind (standings_behind st one) two
+behind-both st one two = fold-append standing_behind st one two
 
 -- where it was opened, the disk stands so behind the reserve
 abbrev opening : EquipmentView → Bool → Bool → Went EquipmentView Happening

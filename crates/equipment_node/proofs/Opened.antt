@@ -70,7 +70,8 @@ module _ {D : Type 0} (members : disk.Ghosts D) (s : EquipmentView) where
 
   pub opened-plain :
       (node : Node OwnView Kind) (g : GemSpool D) → node ≡ s.node → needs_numbers s ≡ false
-      → IsClear members g.spool s → IsTold (members.told g.spool.disk) → HasArea s → HasOpened members s node g
+      → IsClear members g.spool s → IsTold (members.told g.spool.disk) → HasArea s
+      → HasOpened members s node g
   opened-plain node g node_is few clear told area =
       let same = needs-by false few in
       record {
@@ -118,6 +119,25 @@ module _ {D : Type 0} (members : disk.Ghosts D) (s : EquipmentView) where
             subst (λ (x : EquipmentView). is_some s.node.own.setup ≡ is_some x.file.setup.bytes) (sym same) area;
         told = (through.0, through.1);
       }
+
+  -- the recipes stay
+  pub opened-recipes : (opened s).recipes ≡ s.recipes
+  opened-recipes = go (needs_numbers s)
+    where
+      go : (needs : Bool) → (if needs then reserved s else s).recipes ≡ s.recipes
+      go true = refl
+      go false = refl
+
+  -- by its definition
+  pub opened-so : (node : Node OwnView Kind) (g : GemSpool D) → HasOpened members s node g
+      → HasOpened members s (opened s).node g
+  opened-so node g begin = record {
+    went = begin.went;
+    node_is = refl;
+    clear = begin.clear;
+    area = begin.area;
+    told = begin.told;
+  }
 
   pub marked-out :
       (g h : GemSpool D) (spent : Device D) → needs_numbers s ≡ true → IsClear members g.spool s

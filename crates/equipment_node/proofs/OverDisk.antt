@@ -1,6 +1,6 @@
 -- What was begun over the disk, and what comes of it.
-use Rattle.std.proofs.Common.{◌≡◌, inl, refl, sym, ap, subst, ◌∙◌, arith, zero, suc, ◌≤◌, Bool, true, ℕ, List, []}
-use Rattle.std.proofs.Common.{◌∷◌, ◌++◌, length, map, take, Option, Some, None, is_some, if◌then◌else◌}
+use Rattle.std.proofs.Common.{◌≡◌, inl, inr, refl, sym, ap, subst, ◌∙◌, arith, zero, suc, ◌≤◌, Bool, true, false, ℕ}
+use Rattle.std.proofs.Common.{List, [], ◌∷◌, ◌++◌, length, map, take, Option, Some, None, is_some, if◌then◌else◌}
 use Rattle.std.specs.Prelude.{Result, Ok, Err}
 use Rattle.std.specs.List.{slice_get}
 use Rattle.std.specs.Option.{option_map_or}
@@ -10,7 +10,6 @@ use Rattle.disk_base.specs.declared.disk.Disk as disk
 use Rattle.gem_spool.specs.declared.count.Count.{Count}
 use Rattle.gem_spool.specs.declared.spool.GemSpool.{GemSpool}
 use Rattle.gem_spool.specs.declared.works.Undone.{Undone}
-use Rattle.gem_spool.specs.declared.works.Work.{Work}
 use Rattle.gem_spool.specs.Standing.{Standing, Stands, count_in}
 use Rattle.gem_spool.specs.Works.{AreSized, standings_after}
 use Rattle.message_flow.specs.declared.step.StepOut.{StepOut}
@@ -22,8 +21,10 @@ use Rattle.trace_log.specs.Log.{Happening}
 use Rattle.message_end.specs.Core.{Went, and_then, at_first, step_in}
 use Rattle.message_end.specs.Core.Went.{Goes, Spent}
 use Rattle.message_end.specs.Ends.{Input, IsFront, printed}
-use Rattle.message_end.specs.Parts.{Node, after_parts}
-use Rattle.message_end.proofs.Growing.{front-both, front-same, parts-grow}
+use Rattle.message_end.specs.Parts.{Node}
+use Rattle.message_end.specs.Own.{Has}
+use Rattle.message_end.proofs.Growing.{front-both, front-same}
+use Rattle.message_end.proofs.Members.{has-back}
 use Rattle.spool_ledger.specs.Ledger.{LedgerView, carried_out, next_of, stood_count}
 use Rattle.equipment_tables.specs.Tables.{most_transmitted}
 use Rattle.spool_ledger.specs.Sizes.{oldest_of as oldest_size}
@@ -32,24 +33,23 @@ use Rattle.spool_ledger.specs.declared.unload.Unload.{Unload}
 use Rattle.spool_works.specs.declared.ended.Ended.{Ended}
 use Rattle.spool_works.specs.declared.ended.Ended.TheVariants as ended
 use Rattle.tool_step.specs.declared.kind.Kind.{Kind}
-use Rattle.equipment_node.specs.Amid.{Acts, Carries, EndsSo, HasCut, IsAt, IsBegun, IsBegunSpent, IsCounted, Opens}
+use Rattle.equipment_node.specs.Amid.{Acts, Carries, EndsSo, HasCut, IsAt, IsBegun, IsBegunSpent, IsCounted}
 use Rattle.equipment_node.specs.Amid.{WorksFit, opened, settled_node}
 use Rattle.equipment_node.specs.Cut.{cut_at, noted_to}
 use Rattle.spool_works.specs.DiskWorks.{DiskWork, IsAmidWork, fronts_of, standings_behind}
-use Rattle.tool_step.specs.Disk.{keep_works, owed_in, read_works, reserve_works, standing_in, stops, takes_up, works_behind}
-use Rattle.tool_step.specs.Disk.{works_of}
-use Rattle.spool_works.specs.DiskWorks.DiskWork.{Change, Keep, ReadOldest, Reserve}
-use Rattle.tool_step.specs.Equipment.{EquipmentView, act, begun_step, ended_step, node_step, oldest_of, parts_done}
-use Rattle.tool_step.specs.Equipment.{kept_step, kept_view, reserving, settled, settled_file, settled_step, settled_went}
-use Rattle.tool_step.specs.Equipment.{went_with_file}
+use Rattle.tool_step.specs.Disk.{keep_works, owed_in, read_works, reserve_works, standing_in, stops, takes_up, unserved}
+use Rattle.tool_step.specs.Disk.{works_behind, works_of}
+use Rattle.spool_works.specs.DiskWorks.DiskWork.{Change, Keep, ReadOldest}
+use Rattle.tool_step.specs.Equipment.{EquipmentView, act, begun_step, ended_step, kept_step, kept_view}
+use Rattle.tool_step.specs.Equipment.{reserving, served_step, settled, settled_file, settled_step, settled_went}
 use Rattle.tool_step.specs.Setup.{bytes_to_keep, to_keep}
 use Rattle.tool_step.specs.declared.owed.Owed.{Owed}
-use Rattle.tool_step.specs.declared.owed.Owed.TheVariants.{Keep as KeepPrimary}
+use Rattle.tool_step.specs.declared.owed.Owed.TheVariants.{Answered, Keep as KeepPrimary, Recipes}
 use Rattle.tool_law.proofs.Areas.{area-begun}
+use Rattle.tool_law.proofs.Lawful.{act-grows}
 use Rattle.tool_step.proofs.StepFiles.{settled-slots, settled-version}
 use Rattle.tool_step.specs.Left as left
-use Rattle.tool_step.specs.Own.{OwnView, ToolPart}
-use Rattle.tool_step.specs.Step.{first_parts, last_parts}
+use Rattle.tool_step.specs.Own.{OwnView}
 use Rattle.equipment_node.specs.Stepping.{IsClear, IsTold}
 use Rattle.equipment_node.proofs.Cutting.{cut-noted, noted-front, owed-front, read-front}
 use Rattle.spool_works.proofs.OwedWorks.{HasStoppedAt, behind-owed, get-behind, get-front, owed-amid, owed-stands}
@@ -59,80 +59,12 @@ use Rattle.setup_store.specs.Entries.{Entry}
 use Rattle.spool_works.specs.Owed.{CarriesOwed, keep_by, owed_works}
 use Rattle.equipment_node.proofs.OnDisk.{get-has, kept-of, take-all}
 use Rattle.equipment_node.proofs.OnDisk.{settled-standing, settled-sizes, place_of, reserves, is_reserving, placed}
-use Rattle.equipment_node.proofs.OnDisk.{placed-front, placed-standing, opened-standing}
+use Rattle.equipment_node.proofs.OnDisk.{behind-both, opened-standing, placed-front, placed-standing, placed-whole}
 use Rattle.equipment_node.proofs.Sizing.{sized-of, sizes-stand}
 
 -- ---- what was begun, and what comes of it
 
-act-grows : (went : Went EquipmentView Happening) (now : ℕ)
-    → IsFront (step_in went).notes (step_in (and_then (settled_went went) (ended_step now))).notes
-act-grows (Spent step) now = front-same step.notes
-act-grows (Goes step) now =
-    go (after_parts Some parts (node_step (kept_step (settled_step step))))
-    (parts-grow parts (node_step (kept_step (settled_step step))))
-  where
-    parts : List ToolPart
-    parts = last_parts (oldest_of (kept_view (settled step.next))) now
-
-    go : (went : Went (Node OwnView Kind) Happening) → IsFront step.notes (step_in went).notes
-        → IsFront step.notes (step_in (went_with_file (kept_view (settled step.next)) went)).notes
-    go (Goes next) grows = grows
-    go (Spent next) grows = grows
-
 module _ {D : Type 0} (members : disk.Ghosts D) (s : EquipmentView) (input : Input ToolCommand) (now : ℕ) where
-  -- ---- before anything is begun
-
-  -- nothing is begun where no system bytes are left
-  spent-at-once : reserving s ≡ Spent (at_first s) → act s input now ≡ Spent (settled_step (at_first s))
-  spent-at-once is =
-      ap (λ (w : Went EquipmentView Happening).
-      and_then (settled_went (and_then w (parts_done (first_parts input now)))) (ended_step now)) is
-
-  stands-still : carried_out s.node.own.ledger ≡ s.node.own.ledger → standing_in s ≡ standing_in (settled s)
-  stands-still owes =
-      ap (λ (works : List Work). record { next = next_of s.node.own.ledger; file = (standings_after stood works).file })
-      (ap (λ (l : LedgerView). l.works) owes)
-    where
-      stood : Standing
-      stood = record { next = (stood_count s.node.own.ledger).next; file = s.file }
-
-  pub not-opened :
-      (node new : Node OwnView Kind) (out : StepOut) (end : Ended D) → out.notes ≡ []
-      → carried_out s.node.own.ledger ≡ s.node.own.ledger → Opens members s node (Err end)
-      → Acts members s input now new out (Err end)
-  not-opened node new out (ended.NumbersSpent spent) empty owes is after notes quiet = (
-    record { step = settled_step (at_first s); is = spent-at-once is.0; notes = notes ∙ empty; quiet = quiet },
-    λ t told. subst (λ (st : Standing). left.Holds st t.now)
-        (stands-still owes
-        ∙ ap (λ (w : Went EquipmentView Happening). standing_in (step_in w).next) (sym (spent-at-once is.0)))
-        (is.1 t told),
-  )
-  not-opened node new out (ended.DiskFailed spent) empty owes is after notes quiet = (
-    record {
-      front = [];
-      may = get-has (stops s input now) 0 [] front;
-      first = record { rest = (step_in (act s input now)).notes; whole = refl };
-      notes = notes ∙ empty;
-      quiet = quiet;
-    },
-    λ t told. record {
-      place = 0;
-      work = Reserve;
-      is = ap (λ (works : List DiskWork). slice_get (works ++ works_behind (begun_step s input now)) 0) is.0;
-      front = [];
-      front_is = front;
-      notes = notes ∙ empty;
-      left = is.1 t told;
-    },
-  )
-    where
-      front : slice_get (stops s input now) 0 ≡ Some []
-      front =
-          ap (λ (works : List DiskWork).
-          slice_get (fronts_of [] (works ++ works_behind (begun_step s input now)) (step_in (begun_step s input now)).notes) 0)
-          is.0
-  not-opened node new out (ended.NoMemory spent) empty owes is after notes quiet = absurd is
-
   -- ---- behind the first parts
 
   module _ (went : reserving s ≡ Goes (at_first (opened s))) where
@@ -166,13 +98,23 @@ module _ {D : Type 0} (members : disk.Ghosts D) (s : EquipmentView) (input : Inp
           ap (λ (w : Went EquipmentView Happening). reserve_works s ++ works_behind w) is
           ∙ ap (λ (keep : List DiskWork). reserve_works s ++ (map Change (owed_in begun) ++ keep ++ rest)) keeps
 
-      stops-are :
-          stops s input now
-          ≡ fronts_of [] (reserves (is_reserving s) ++ (owed ++ rest)) (step_in begun).notes
+      -- what is noted where the disk fails at a work
+      abbrev fronts : List (List Happening)
+      fronts = fronts_of [] (reserves (is_reserving s) ++ (owed ++ rest)) (step_in begun).notes
+
+      stops-are : stops s input now ≡ fronts ++ unserved begun
       stops-are =
-          ap (λ (works : List DiskWork). fronts_of [] works (step_in (begun_step s input now)).notes) works-are
+          ap
+          (λ (works : List DiskWork).
+          fronts_of [] works (step_in (begun_step s input now)).notes ++ unserved (begun_step s input now)) works-are
           ∙ ap (λ (w : Went EquipmentView Happening).
-          fronts_of [] (reserves (is_reserving s) ++ (owed ++ rest)) (step_in w).notes) is
+          fronts_of [] (reserves (is_reserving s) ++ (owed ++ rest)) (step_in w).notes ++ unserved w) is
+
+      stop-at : (place : ℕ) (front : List Happening) → slice_get fronts place ≡ Some front
+          → slice_get (stops s input now) place ≡ Some front
+      stop-at place front is_there =
+          ap (λ (all : List (List Happening)). slice_get all place) stops-are
+          ∙ get-front fronts (unserved begun) place front is_there
 
       standing-is : (at : ℕ) → at ≤ length owed
           → left.standing_at s input now (place_of (is_reserving s) at)
@@ -215,20 +157,23 @@ module _ {D : Type 0} (members : disk.Ghosts D) (s : EquipmentView) (input : Inp
           notes = noted;
           quiet = quiet;
         },
-        λ t now_told. record {
-          place = place_of (is_reserving s) cut.at;
-          work = stopped.one;
-          is =
-              ap (λ (works : List DiskWork). slice_get works (place_of (is_reserving s) cut.at)) works-are
-              ∙ placed (is_reserving s) (owed ++ rest) cut.at
-              ∙ get-front owed rest cut.at stopped.one stopped.is;
-          front = front;
-          front_is = front-is;
-          notes = noted;
-          left =
-              subst (λ (st : Standing). EachImage (IsAmidWork st stopped.one) t.now)
-              (sym (standing-is cut.at (get-within owed cut.at stopped.one stopped.is))) (stopped.amid t now_told);
-        },
+        λ t now_told.
+            inl
+            (record {
+              place = place_of (is_reserving s) cut.at;
+              work = stopped.one;
+              is =
+                  ap (λ (works : List DiskWork). slice_get works (place_of (is_reserving s) cut.at)) works-are
+                  ∙ placed (is_reserving s) (owed ++ rest) cut.at
+                  ∙ get-front owed rest cut.at stopped.one stopped.is;
+              front = front;
+              front_is = front-is;
+              notes = noted;
+              left =
+                  subst (λ (st : Standing). EachImage (IsAmidWork st stopped.one) t.now)
+                  (sym (standing-is cut.at (get-within owed cut.at stopped.one stopped.is)))
+                  (stopped.amid t now_told);
+            }),
       )
         where
           undone : Undone D
@@ -246,9 +191,9 @@ module _ {D : Type 0} (members : disk.Ghosts D) (s : EquipmentView) (input : Inp
 
           front-is : slice_get (stops s input now) (place_of (is_reserving s) cut.at) ≡ Some front
           front-is =
-              ap (λ (fronts : List (List Happening)). slice_get fronts (place_of (is_reserving s) cut.at)) stops-are
-              ∙ placed-front (is_reserving s) (owed ++ rest) (step_in begun).notes cut.at
-              ∙ owed-front (owed_in begun) setup rest [] (step_in begun).notes cut.at stopped.one stopped.is
+              stop-at (place_of (is_reserving s) cut.at) front
+              (placed-front (is_reserving s) (owed ++ rest) (step_in begun).notes cut.at
+              ∙ owed-front (owed_in begun) setup rest [] (step_in begun).notes cut.at stopped.one stopped.is)
 
           noted : after.notes ≡ printed front
           noted =
@@ -390,6 +335,8 @@ module _ {D : Type 0} (members : disk.Ghosts D) (s : EquipmentView) (input : Inp
       kept-some : (owed : Option Owed) (setup : Option (List Entry)) → is_some (bytes_to_keep owed setup) ≡ true
           → is_some setup ≡ true
       kept-some None setup some = absurd (cc)
+      kept-some (Some (Recipes asked primary)) setup some = absurd (cc)
+      kept-some (Some (Answered given primary)) setup some = absurd (cc)
       kept-some (Some (KeepPrimary primary)) None some = absurd (cc)
       kept-some (Some (KeepPrimary primary)) (Some list) some = refl
 
@@ -422,7 +369,7 @@ module _ {D : Type 0} (members : disk.Ghosts D) (s : EquipmentView) (input : Inp
         all : List DiskWork
         all = owed_works begun.step.next.node.own.ledger.works (to_keep begun.step.next.node.own)
 
-        act-is : act s input now ≡ ended_step now (kept_step (settled_step begun.step))
+        act-is : act s input now ≡ ended_step now (served_step (kept_step (settled_step begun.step)))
         act-is =
             ap (λ (w : Went EquipmentView Happening). and_then (settled_went w) (ended_step now)) begun.is
 
@@ -451,47 +398,111 @@ module _ {D : Type 0} (members : disk.Ghosts D) (s : EquipmentView) (input : Inp
           λ t told. subst (λ (w : Went EquipmentView Happening). left.Holds (standing_in (step_in w).next) t.now)
               (sym (act-is ∙ ends.is)) (ends.keeps t told),
         )
-        go (Err (ended.DiskFailed spent)) ends = λ after notes quiet. (
+        go (Err (ended.DiskFailed spent)) (inl took, noted, held) = λ after notes quiet. (
           record {
             front = begun.step.notes;
             may = get-has (stops s input now) (place_of (is_reserving s) (length all)) begun.step.notes front-is;
             first =
                 grows went (Goes begun.step) begun.is (to_keep begun.step.next.node.own) keeps begun.step.notes
                 (front-same begun.step.notes);
-            notes = notes ∙ ends.1;
+            notes = notes ∙ noted;
             quiet = quiet;
           },
-          λ t told. record {
-            place = place_of (is_reserving s) (length all);
-            work = ReadOldest oldest;
-            is =
-                ap (λ (works : List DiskWork). slice_get works (place_of (is_reserving s) (length all)))
-                (works-are went (Goes begun.step) begun.is (to_keep begun.step.next.node.own) keeps)
-                ∙ placed (is_reserving s) (all ++ read_works (Goes begun.step)) (length all)
-                ∙ get-behind all (read_works (Goes begun.step))
-                ∙ ap (λ (works : List DiskWork). slice_get works 0) reads;
-            front = begun.step.notes;
-            front_is = front-is;
-            notes = notes ∙ ends.1;
-            left =
-                λ image at.
-                inl
-                (subst (λ (st : Standing). EachImage (λ image. StandsFor image st.file) t.now) (sym at-end)
-                (ends.2 t told) image at);
-          },
+          λ t told.
+              inl
+              (record {
+                place = place_of (is_reserving s) (length all);
+                work = ReadOldest oldest;
+                is =
+                    ap (λ (works : List DiskWork). slice_get works (place_of (is_reserving s) (length all)))
+                    (works-are went (Goes begun.step) begun.is (to_keep begun.step.next.node.own) keeps)
+                    ∙ placed (is_reserving s) (all ++ read_works (Goes begun.step)) (length all)
+                    ∙ get-behind all (read_works (Goes begun.step))
+                    ∙ ap (λ (works : List DiskWork). slice_get works 0) reads;
+                front = begun.step.notes;
+                front_is = front-is;
+                notes = notes ∙ noted;
+                left =
+                    λ image at.
+                    inl
+                    (subst (λ (st : Standing). EachImage (λ image. StandsFor image st.file) t.now) (sym at-end)
+                    (held t told) image at);
+              }),
         )
           where
             reads : read_works (Goes begun.step) ≡ ReadOldest oldest ∷ []
             reads =
-                ap (λ (b : Bool). if b then ReadOldest oldest ∷ [] else []) (sym (takes-settled begun.step.next) ∙ ends.0)
+                ap (λ (b : Bool). if b then ReadOldest oldest ∷ [] else []) (sym (takes-settled begun.step.next) ∙ took)
 
             front-is : slice_get (stops s input now) (place_of (is_reserving s) (length all)) ≡ Some begun.step.notes
             front-is =
-                ap (λ (fronts : List (List Happening)). slice_get fronts (place_of (is_reserving s) (length all)))
-                (stops-are went (Goes begun.step) begun.is (to_keep begun.step.next.node.own) keeps)
-                ∙ placed-front (is_reserving s) (all ++ read_works (Goes begun.step)) begun.step.notes (length all)
+                stop-at went (Goes begun.step) begun.is (to_keep begun.step.next.node.own) keeps
+                (place_of (is_reserving s) (length all)) begun.step.notes
+                (placed-front (is_reserving s) (all ++ read_works (Goes begun.step)) begun.step.notes (length all)
                 ∙ ap (λ (works : List DiskWork). slice_get (fronts_of [] (all ++ works) begun.step.notes) (length all)) reads
-                ∙ read-front all oldest [] begun.step.notes
+                ∙ read-front all oldest [] begun.step.notes)
+        go (Err (ended.DiskFailed spent)) (inr owes, noted, held) = λ after notes quiet. (
+          record {
+            front = begun.step.notes;
+            may =
+                subst (λ (fronts : List (List Happening)). Has fronts begun.step.notes) (sym stops-so)
+                (has-back
+                (fronts_of [] (reserves (is_reserving s) ++ (all ++ read_works (Goes begun.step))) begun.step.notes)
+                (begun.step.notes ∷ []) begun.step.notes (inl refl));
+            first =
+                grows went (Goes begun.step) begun.is (to_keep begun.step.next.node.own) keeps begun.step.notes
+                (front-same begun.step.notes);
+            notes = notes ∙ noted;
+            quiet = quiet;
+          },
+          λ t told.
+              inr
+              (record {
+                front = begun.step.notes;
+                is = ap unserved begun.is ∙ unserved-is;
+                notes = notes ∙ noted;
+                left = subst (λ (st : Standing). left.Holds st t.now) (sym at-last) (held t told);
+              }),
+        )
+          where
+            unserved-is : unserved (Goes begun.step) ≡ begun.step.notes ∷ []
+            unserved-is = ap (λ (b : Bool). if b then begun.step.notes ∷ [] else []) owes
+
+            stops-so :
+                stops s input now
+                ≡ fronts_of [] (reserves (is_reserving s) ++ (all ++ read_works (Goes begun.step))) begun.step.notes
+                ++ begun.step.notes ∷ []
+            stops-so =
+                stops-are went (Goes begun.step) begun.is (to_keep begun.step.next.node.own) keeps
+                ∙ ap (λ (more : List (List Happening)).
+                fronts_of [] (reserves (is_reserving s) ++ (all ++ read_works (Goes begun.step))) begun.step.notes
+                ++ more) unserved-is
+
+            works : List DiskWork
+            works = works_of s input now
+
+            reads-still : (st : Standing) → standings_behind st (read_works (Goes begun.step)) ≡ st
+            reads-still st = by_taking (takes_up begun.step.next.node.own)
+              where
+                by_taking : (takes : Bool)
+                    → standings_behind st
+                    (if takes then ReadOldest (oldest_size begun.step.next.node.own.ledger.sizes) ∷ [] else [])
+                    ≡ st
+                by_taking true = refl
+                by_taking false = refl
+
+            at-last :
+                left.standing_at s input now (length works) ≡ standing_in (kept_view (settled begun.step.next))
+            at-last =
+                ap (λ (ws : List DiskWork). standings_behind (standing_in s) ws) (take-all works)
+                ∙ ap (λ (ws : List DiskWork). standings_behind (standing_in s) ws)
+                (works-are went (Goes begun.step) begun.is (to_keep begun.step.next.node.own) keeps)
+                ∙ placed-whole (is_reserving s) (standing_in s) (all ++ read_works (Goes begun.step))
+                ∙ ap (λ (st : Standing). standings_behind st (all ++ read_works (Goes begun.step)))
+                (opened-standing s went)
+                ∙ behind-both (standing_in (opened s)) all (read_works (Goes begun.step))
+                ∙ reads-still (standings_behind (standing_in (opened s)) all)
+                ∙ standing
         go (Err (ended.NoMemory spent)) ends = λ after notes quiet. (
           quiet,
           λ t told. record {

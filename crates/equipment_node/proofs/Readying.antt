@@ -35,7 +35,7 @@ use Rattle.tool_law.proofs.Lawful.{AllKeepSound, KeepsSound, ended-sound, parts-
 use Rattle.tool_law.proofs.MildCommands.{sound-self}
 use Rattle.tool_step.specs.Own.{OwnView, unowed}
 use Rattle.tool_step.specs.declared.owed.Owed.{Owed}
-use Rattle.tool_step.specs.declared.owed.Owed.TheVariants.{Keep}
+use Rattle.tool_step.specs.declared.owed.Owed.TheVariants.{Answered, Keep, Recipes}
 use Rattle.tool_law.specs.Sound.{IsSound}
 use Rattle.tool_law.proofs.SpoolSound.{carried-good, next-good}
 use Rattle.tool_step.specs.Step.{answering, owed_turn}
@@ -183,6 +183,8 @@ module _ (plan : EquipmentPlan) (fits : EquipmentPlanFits plan) (slots : ℕ) (s
       go : (owed : Option Owed) → IsSound plan slots stood (owed_turn owed (unowed own)).own
       go None = unowed-keeps own is
       go (Some (Keep primary)) = unowed-keeps own is
+      go (Some (Recipes asked primary)) = unowed-keeps own is
+      go (Some (Answered given primary)) = unowed-keeps own is
 
   last-keep :
       (oldest : Option (ℕ × Spooled)) (now : ℕ) → IsSendable oldest

@@ -20,6 +20,9 @@ use Rattle.equipment_tables.specs.declared.plan.EquipmentPlan.{EquipmentPlan}
 use Rattle.equipment_tables.specs.Plan.{EquipmentPlanFits}
 use Rattle.spool_works.specs.declared.ended.Ended.{Ended}
 use Rattle.spool_works.specs.declared.ended.Ended.TheVariants as ended
+use Rattle.gem_recipes.specs.contracts.no_recipes.NoRecipesRecipeKeeper.TheImpl.{ghosts as no_keepers}
+use Rattle.gem_recipes.specs.declared.keeper.RecipeKeeper as keeper
+use Rattle.gem_recipes.specs.declared.no_recipes.NoRecipes.{NoRecipes}
 use Rattle.equipment_node.specs.declared.equipment.Starting.{Starting}
 use Rattle.equipment_node.specs.declared.equipment.Starting.TheVariants as starting
 use Rattle.tool_step.specs.declared.kind.Kind.{Kind}
@@ -27,10 +30,12 @@ use Rattle.tool_step.specs.Disk.{stops}
 use Rattle.tool_step.specs.Equipment.{EquipmentView, act, is_marked_out, started_on, starts, unstarted}
 use Rattle.equipment_node.specs.Held.{Begins, HasMoved, Held, IsIn, view_in}
 use Rattle.equipment_node.specs.InMemory.{stop_at_start}
+use Rattle.equipment_node.specs.Keeping.{TellsOffered, recipes_of}
 use Rattle.tool_law.specs.Laws.{DidOf}
 use Rattle.tool_law.proofs.LawfulLosses.{equipment_lawful}
 use Rattle.tool_core.specs.Node.{node_of}
 use Rattle.tool_step.specs.Own.{OwnView}
+use Rattle.tool_step.specs.Recipes.{RecipesView, no_recipes}
 use Rattle.tool_law.specs.Sound.{AllCanBeSent}
 use Rattle.equipment_node.specs.StartOver.{HasStartedOver, StartsFrom}
 use Rattle.tool_step.specs.Step.{end_plan}
@@ -40,33 +45,42 @@ module _ {D : Type 0} (members : disk.Ghosts D) where
   -- it is that of this state, of which the disk tells
   pub seen :
       (g : GemSpool D) (node : Node OwnView Kind) (s : EquipmentView) → IsClear members g.spool s
-      → IsTold (members.told g.spool.disk) → node ≡ s.node → s ≡ view_of members node (Some g)
-  seen g node s clear told same =
-      ap (λ (n : Node OwnView Kind). with_parts n s.file) (sym same)
-      ∙ ap (λ (file : SpoolFile). with_parts node file)
+      → IsTold (members.told g.spool.disk) → node ≡ s.node → (kept : RecipesView) → s.recipes ≡ kept
+      → s ≡ view_of members node (Some g) kept
+  seen g node s clear told same kept kept_is =
+      ap (λ (n : Node OwnView Kind). with_parts n s.file s.recipes) (sym same)
+      ∙ ap (λ (recipes : RecipesView). with_parts node s.file recipes) kept_is
+      ∙ ap (λ (file : SpoolFile). with_parts node file kept)
       ((clear.stands.file told.0 told.1).stands.is
       ∙ ap (λ (tells : Option Story). file_told tells (known_of g.spool)) (sym told.1))
     where
-      with_parts : Node OwnView Kind → SpoolFile → EquipmentView
-      with_parts n file = record { node = n; file = file }
+      with_parts : Node OwnView Kind → SpoolFile → RecipesView → EquipmentView
+      with_parts n file kept = record { node = n; file = file; recipes = kept }
 
   -- ---- a step
 
   pub step-moved :
-      (h k : Held D) (input : Input ToolCommand) (now : ℕ) (out : StepOut)
-      → HasStepped members (view_in members h) input now (node_of k.tool) out k.spool
-      → HasMoved members h input now out k
-  step-moved h k input now out is =
-      let same = seen k.spool (node_of k.tool) is.step.next is.on.clear is.told (sym is.node_is) in
+      {K : Type 0} (keepers : keeper.Ghosts K) (h k : Held D K) (input : Input ToolCommand) (now : ℕ) (out : StepOut)
+      → (is : HasStepped members (view_in members keepers h) input now (node_of k.tool) out k.spool)
+      → is.step.next.recipes ≡ recipes_of keepers k.keeper → TellsOffered keepers k.keeper
+      → HasMoved members keepers h input now out k
+  step-moved keepers h k input now out is kept tells =
+      let same =
+      seen k.spool (node_of k.tool) is.step.next is.on.clear is.told (sym is.node_is) (recipes_of keepers k.keeper)
+      kept in
       record {
         gone = record { step = is.step; is = is.is; next_is = same; notes = is.notes; written = is.written };
-        in_state =
-            record { on = subst (λ (t : EquipmentView). IsOn members k.spool.spool t) same is.on; told = is.told };
+        in_state = record {
+          on = subst (λ (t : EquipmentView). IsOn members k.spool.spool t) same is.on;
+          told = is.told;
+          kept = tells;
+        };
       }
 
   -- ---- a start
 
-  module _ (plan : EquipmentPlan) (fits : EquipmentPlanFits plan) (file : SpoolFile) (h : Held D) (out : StepOut)
+  module _ (plan : EquipmentPlan) (fits : EquipmentPlanFits plan) (file : SpoolFile) (h : Held D NoRecipes)
+      (out : StepOut)
       (is : HasStartedOver members plan file h out)
     where
       abbrev step : Step EquipmentView Happening
@@ -75,10 +89,10 @@ module _ {D : Type 0} (members : disk.Ghosts D) where
       goes : starts plan file ≡ Goes step
       goes = ap (λ (out : Bool). if out then Spent (at_first (unstarted plan file)) else Goes step) is.room
 
-      pub view-is : step.next ≡ view_in members h
-      view-is = seen h.spool (node_of h.tool) step.next is.clear is.told is.node_is
+      pub view-is : step.next ≡ view_in members no_keepers h
+      view-is = seen h.spool (node_of h.tool) step.next is.clear is.told is.node_is no_recipes refl
 
-      pub start-gone : HasGone (starts plan file) (view_in members h) out
+      pub start-gone : HasGone (starts plan file) (view_in members no_keepers h) out
       start-gone =
           record { step = step; is = goes; next_is = view-is; notes = is.notes; written = is.quiet }
 
@@ -89,14 +103,21 @@ module _ {D : Type 0} (members : disk.Ghosts D) where
           subst
           (λ (went : Went EquipmentView Happening). OnStart (HasStarted (end_plan plan) (DidOf plan) 0) went)
           goes law.starts in
-          record { plan = plan; fits = fits; base = start.base; doings = start.said; did = start.is }
+          record {
+            plan = plan;
+            fits = fits;
+            base = start.base;
+            doings = start.said;
+            did = start.is;
+          }
 
-      pub start-in : AllCanBeSent file.list → IsIn members h
-      start-in can = record {
+      pub start-in : AllCanBeSent file.list → TellsOffered no_keepers h.keeper → IsIn members no_keepers h
+      start-in can tells = record {
         on =
             subst (λ (t : EquipmentView). IsOn members h.spool.spool t) view-is
             (record { clear = is.clear; made = made can });
         told = is.told;
+        kept = tells;
       }
 
 -- ---- an end that may have stopped
@@ -137,32 +158,33 @@ start-spent plan file out marked empty =
 module _ {D : Type 0} (members : disk.Ghosts D) (plan : EquipmentPlan) (out : StepOut) where
   -- nothing is noted where it doesn't start, over a spool in hand
   pub started-ends :
-      {E : Type 0} (old : D) (file : SpoolFile) (means : E → EquipmentView) (why : Starting D)
+      {E : Type 0} (old : D) (file : SpoolFile) (means : E → EquipmentView) (why : Starting D NoRecipes)
       → StartsFrom members plan old file out (Err why) → (told : Stop) → told ≡ stop_at_start why
       → Starts {E = E} ([] ∷ []) (starts plan file) means out (Err told)
   started-ends {E} old file means why is told told_is =
       subst (λ (e : Stop). Starts {E = E} ([] ∷ []) (starts plan file) means out (Err e)) (sym told_is) (go why is)
     where
-      go : (why : Starting D) → StartsFrom members plan old file out (Err why)
+      go : (why : Starting D NoRecipes) → StartsFrom members plan old file out (Err why)
           → Starts {E = E} ([] ∷ []) (starts plan file) means out (Err (stop_at_start why))
-      go (starting.NoMemory spent) is = is.0
-      go (starting.NotSpool raw break) is = is.0.line
-      go (starting.DiskFailed spent) is = is.0.line
-      go (starting.NumbersSpent spent) is = start-spent plan file out is.1.1 is.1.0
+      go (starting.NoMemory spent keeper) is = is.0
+      go (starting.NotSpool raw break keeper) is = is.0.line
+      go (starting.DiskFailed spent keeper) is = is.0.line
+      go (starting.NumbersSpent spent keeper) is = start-spent plan file out is.1.1 is.1.0
 
   -- nor over a device that tells its bytes
   pub begun-ends :
-      (s : Story) (next : EquipmentView) (why : Starting D) → Begins members plan s out (Err why)
+      (s : Story) (next : EquipmentView) (why : Starting D NoRecipes) → Begins members no_keepers plan s out (Err why)
       → Leaves ([] ∷ []) false (starts plan (file_in s.now.bytes)) next out (Err (stop_at_start why))
-  begun-ends s next (starting.NoMemory spent) is = is.0
-  begun-ends s next (starting.NotSpool raw break) is = is.0.line
-  begun-ends s next (starting.DiskFailed spent) is = is.0.line
-  begun-ends s next (starting.NumbersSpent spent) is =
+  begun-ends s next (starting.NoMemory spent keeper) is = is.0
+  begun-ends s next (starting.NotSpool raw break keeper) is = is.0.line
+  begun-ends s next (starting.DiskFailed spent keeper) is = is.0.line
+  begun-ends s next (starting.NumbersSpent spent keeper) is =
       (start-spent plan (file_in s.now.bytes) out is.1 is.0, refl)
 
 -- nor does its disk stop it
-pub start-whole : {D : Type 0} (R : Type 0) (why : Starting D) → IsNotStopped {R = R} (Err (stop_at_start why))
-start-whole R (starting.NoMemory spent) = tt
-start-whole R (starting.NotSpool raw break) = tt
-start-whole R (starting.DiskFailed spent) = tt
-start-whole R (starting.NumbersSpent spent) = tt
+pub start-whole : {D : Type 0} (R : Type 0) (why : Starting D NoRecipes)
+    → IsNotStopped {R = R} (Err (stop_at_start why))
+start-whole R (starting.NoMemory spent keeper) = tt
+start-whole R (starting.NotSpool raw break keeper) = tt
+start-whole R (starting.DiskFailed spent keeper) = tt
+start-whole R (starting.NumbersSpent spent keeper) = tt

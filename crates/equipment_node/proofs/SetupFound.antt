@@ -32,10 +32,12 @@ use Rattle.spool_works.specs.DiskCalls.{HasFailedIn, HasMade}
 use Rattle.spool_works.specs.Found.{first_in}
 use Rattle.spool_works.specs.HandedBack.{IsKept}
 use Rattle.spool_works.proofs.Called.{failed-all, failed-before, made-all, made-same}
+use Rattle.gem_recipes.specs.declared.no_recipes.NoRecipes.{NoRecipes}
 use Rattle.equipment_node.proofs.HandingBack.{kept-still}
 use Rattle.message_end.specs.Ends.{IsEmpty}
 use Rattle.equipment_tables.specs.declared.plan.EquipmentPlan.{EquipmentPlan}
 use Rattle.tool_step.specs.Setup.{list_of, setup_in}
+use Rattle.equipment_node.specs.Keeping.{no_keeper}
 use Rattle.equipment_node.specs.FoundSetup.{HasFound, HasNotFound}
 use Rattle.equipment_node.specs.HandedBack.{UnstartedBack}
 use Rattle.equipment_node.specs.Held.{HasMark, Held}
@@ -213,7 +215,7 @@ module _ {D : Type 0} (members : disk.Ghosts D) (v : SpoolView D)
         (w : SpoolView D) (raw : Raw D) (e : NotSpool) → raw.disk ≡ w.disk → has_setup members v ≡ true → (value : ℕ)
         → HasValue members v value → HasOnlyRead members v w (load_calls v.slots value) Done
         → ((s : Story) → members.told v.disk ≡ Some s → setup_break (file_in s.now.bytes) ≡ Some e)
-        → HasNotFound members v (starting.NotSpool raw e)
+        → HasNotFound members v (starting.NotSpool raw e no_keeper)
     found-bad w raw e same has value value_is read breaks = record {
       back = subst (λ (d : D). IsKept members v.disk d) (sym same) (read-back w (load_calls v.slots value) read);
       told = ap (λ (d : D). members.told d) same ∙ read.told;
@@ -232,10 +234,11 @@ module _ {D : Type 0} (members : disk.Ghosts D) (v : SpoolView D)
         → HasOnlyRead members v w looks Failed
         → ((s : Story) → members.told v.disk ≡ Some s
         → HasFailedIn members v.disk w.disk (setup_looks (file_in s.now.bytes)))
-        → HasNotFound members v (starting.DiskFailed spent)
+        → HasNotFound members v (starting.DiskFailed spent no_keeper)
     found-none w spent same looks read failed = record {
       back =
-          subst (λ (d : D). UnstartedBack members v.disk (starting.DiskFailed (record { disk = d }))) (sym same)
+          subst (λ (d : D). UnstartedBack members v.disk (starting.DiskFailed (record { disk = d }) no_keeper))
+          (sym same)
           (record { same_disk = read.made.same_disk; rose = read.made.calls.cause.rose });
       told = ap (λ (d : D). members.told d) same ∙ read.told;
       looks = λ s told.
@@ -261,10 +264,10 @@ module _ {D : Type 0} (members : disk.Ghosts D) (v : SpoolView D)
       -- it breaks
       pub setup-breaks :
           (raw : Raw D) (e : NotSpool) → raw.disk ≡ w.disk → why ≡ loading.NotSetup e
-          → HasNotFound members v (starting.NotSpool raw e)
+          → HasNotFound members v (starting.NotSpool raw e no_keeper)
       setup-breaks raw e same is = by (loads-so (loading.NotSetup e) is)
         where
-          by : Loads members v w (Err (loading.NotSetup e)) → HasNotFound members v (starting.NotSpool raw e)
+          by : Loads members v w (Err (loading.NotSetup e)) → HasNotFound members v (starting.NotSpool raw e no_keeper)
           by (has, (value, value_is, inl bad)) =
               found-bad w raw e same has value value_is bad.reads
               (λ s told. bad-value has value value_is s told w e bad)
@@ -276,10 +279,10 @@ module _ {D : Type 0} (members : disk.Ghosts D) (v : SpoolView D)
       -- the disk failed
       pub setup-fails :
           (spent : Spent D) → spent.disk ≡ w.disk → why ≡ loading.Failed
-          → HasNotFound members v (starting.DiskFailed spent)
+          → HasNotFound members v (starting.DiskFailed spent no_keeper)
       setup-fails spent same is = by (loads-so loading.Failed is)
         where
-          by : Loads members v w (Err loading.Failed) → HasNotFound members v (starting.DiskFailed spent)
+          by : Loads members v w (Err loading.Failed) → HasNotFound members v (starting.DiskFailed spent no_keeper)
           by (inl (has, read)) = found-none w spent same cell_look read (cell-fails w has read)
           by (inr (has, (value, value_is, read))) =
               found-none w spent same (load_calls v.slots value) read
@@ -290,10 +293,10 @@ module _ {D : Type 0} (members : disk.Ghosts D) (v : SpoolView D)
       -- memory was wanting
       pub setup-lacks :
           (spent : Spent D) → spent.disk ≡ w.disk → why ≡ loading.NoMemory
-          → HasNotFound members v (starting.NoMemory spent)
+          → HasNotFound members v (starting.NoMemory spent no_keeper)
       setup-lacks spent same is = by (loads-so loading.NoMemory is)
         where
-          by : Loads members v w (Err loading.NoMemory) → HasNotFound members v (starting.NoMemory spent)
+          by : Loads members v w (Err loading.NoMemory) → HasNotFound members v (starting.NoMemory spent no_keeper)
           by (has, (value, value_is, (good, read))) = record {
             back = subst (λ (d : D). IsKept members v.disk d) (sym same) (read-back w cell_look read);
             told = ap (λ (d : D). members.told d) same ∙ read.told;
@@ -348,22 +351,22 @@ module _ {D : Type 0} (members : disk.Ghosts D) (plan : EquipmentPlan) (v : Spoo
         (found.made fresh.told.0 fresh.told.1)
 
     pub found-over :
-        (out : StepOut) (result : Result (Held D) (Starting D))
+        (out : StepOut) (result : Result (Held D NoRecipes) (Starting D NoRecipes))
         → StartsOver members plan (standing_of members w).file out result
         → StartsFrom members plan v.disk here out result
     found-over out result over =
         go result (subst (λ (f : SpoolFile). StartsOver members plan f out result) same-file over)
       where
-        go : (result : Result (Held D) (Starting D)) → StartsOver members plan here out result
+        go : (result : Result (Held D NoRecipes) (Starting D NoRecipes)) → StartsOver members plan here out result
             → StartsFrom members plan v.disk here out result
         go (Ok h) is = (found-sound, is)
-        go (Err (starting.NumbersSpent spent)) is = (found-sound, is)
-        go (Err (starting.DiskFailed spent)) is = is
-        go (Err (starting.NoMemory spent)) is = is
-        go (Err (starting.NotSpool raw break)) is = absurd is
+        go (Err (starting.NumbersSpent spent keeper)) is = (found-sound, is)
+        go (Err (starting.DiskFailed spent keeper)) is = is
+        go (Err (starting.NoMemory spent keeper)) is = is
+        go (Err (starting.NotSpool raw break keeper)) is = absurd is
 
     pub found-asks :
-        (result : Result (Held D) (Starting D))
+        (result : Result (Held D NoRecipes) (Starting D NoRecipes))
         → StartMoves members w.disk (ready_calls (standing_of members w).file)
         (reserve_calls (standing_of members w).file) result
         → StartAsks members v.disk here result
@@ -372,14 +375,14 @@ module _ {D : Type 0} (members : disk.Ghosts D) (plan : EquipmentPlan) (v : Spoo
         (moves-behind members v.disk w.disk (setup_looks here) (ready_calls here) (reserve_calls here) found-made result
         (subst (λ (f : SpoolFile). StartMoves members w.disk (ready_calls f) (reserve_calls f) result) same-file moves))
       where
-        go : (result : Result (Held D) (Starting D))
+        go : (result : Result (Held D NoRecipes) (Starting D NoRecipes))
             → StartMoves members v.disk (setup_looks here ++ ready_calls here) (reserve_calls here) result
             → StartAsks members v.disk here result
         go (Ok h) is = is
-        go (Err (starting.NumbersSpent spent)) is = is
-        go (Err (starting.DiskFailed spent)) is = is
-        go (Err (starting.NoMemory spent)) is = is
-        go (Err (starting.NotSpool raw break)) is = absurd is
+        go (Err (starting.NumbersSpent spent keeper)) is = is
+        go (Err (starting.DiskFailed spent keeper)) is = is
+        go (Err (starting.NoMemory spent keeper)) is = is
+        go (Err (starting.NotSpool raw break keeper)) is = absurd is
 
   module _ (out : StepOut) (empty : IsEmpty out) where
     left-so : (t : Story) → members.told v.disk ≡ Some t
@@ -393,39 +396,39 @@ module _ {D : Type 0} (members : disk.Ghosts D) (plan : EquipmentPlan) (v : Spoo
         image_is)))
 
     pub unfound-over :
-        (why : Starting D) → HasNotFound members v why → StartsFrom members plan v.disk here out (Err why)
-    unfound-over (starting.NoMemory spent) is =
+        (why : Starting D NoRecipes) → HasNotFound members v why → StartsFrom members plan v.disk here out (Err why)
+    unfound-over (starting.NoMemory spent keeper) is =
         (empty.line, λ t told. left-so t (sym is.told ∙ told) (is.stands fresh.told.0 fresh.told.1))
-    unfound-over (starting.DiskFailed spent) is =
+    unfound-over (starting.DiskFailed spent keeper) is =
         (empty, λ t told. left-so t (sym is.told ∙ told) (is.stands fresh.told.0 fresh.told.1))
-    unfound-over (starting.NotSpool raw break) is = (
+    unfound-over (starting.NotSpool raw break keeper) is = (
       empty,
       ap (λ (f : SpoolFile). setup_break f) file-is ∙ (is.looks fresh.told.0 fresh.told.1).0,
       is.told,
     )
-    unfound-over (starting.NumbersSpent spent) is = absurd (is.looks fresh.told.0 fresh.told.1)
+    unfound-over (starting.NumbersSpent spent keeper) is = absurd (is.looks fresh.told.0 fresh.told.1)
 
-  pub unfound-asks : (why : Starting D) → HasNotFound members v why → StartAsks members v.disk here (Err why)
-  unfound-asks (starting.NoMemory spent) is =
+  pub unfound-asks : (why : Starting D NoRecipes) → HasNotFound members v why → StartAsks members v.disk here (Err why)
+  unfound-asks (starting.NoMemory spent keeper) is =
       begun-before members v.disk spent.disk (setup_looks here ++ ready_calls here) (reserve_calls here)
       (begun-before members v.disk spent.disk (setup_looks here) (ready_calls here)
       (subst (λ (f : SpoolFile). HasBegun members v.disk spent.disk (setup_looks f)) (sym file-is)
       (is.looks fresh.told.0 fresh.told.1)))
-  unfound-asks (starting.DiskFailed spent) is =
+  unfound-asks (starting.DiskFailed spent keeper) is =
       failed-before members v.disk spent.disk (setup_looks here ++ ready_calls here) (reserve_calls here)
       (failed-before members v.disk spent.disk (setup_looks here) (ready_calls here)
       (subst (λ (f : SpoolFile). HasFailedIn members v.disk spent.disk (setup_looks f)) (sym file-is)
       (is.looks fresh.told.0 fresh.told.1)))
-  unfound-asks (starting.NotSpool raw break) is =
+  unfound-asks (starting.NotSpool raw break keeper) is =
       subst (λ (f : SpoolFile). HasMade members v.disk raw.disk (setup_looks f)) (sym file-is)
       (is.looks fresh.told.0 fresh.told.1).1
-  unfound-asks (starting.NumbersSpent spent) is = absurd (is.looks fresh.told.0 fresh.told.1)
+  unfound-asks (starting.NumbersSpent spent keeper) is = absurd (is.looks fresh.told.0 fresh.told.1)
 
 -- a disk of which no call is to fail stays such in what comes behind
 pub found-sure :
     {D : Type 0} (members : disk.Ghosts D) (v w : SpoolView D) (setup : Option (List Entry))
-    → HasFound members v w setup → (result : Result (Held D) (Starting D))
-    → IfOk result (λ (h : Held D). KeepsSure members w.disk h.spool.spool.disk)
-    → IfOk result (λ (h : Held D). KeepsSure members v.disk h.spool.spool.disk)
+    → HasFound members v w setup → (result : Result (Held D NoRecipes) (Starting D NoRecipes))
+    → IfOk result (λ (h : Held D NoRecipes). KeepsSure members w.disk h.spool.spool.disk)
+    → IfOk result (λ (h : Held D NoRecipes). KeepsSure members v.disk h.spool.spool.disk)
 found-sure members v w setup found (Err why) keeps = tt
 found-sure members v w setup found (Ok h) keeps = λ sure. keeps (found.sure sure)

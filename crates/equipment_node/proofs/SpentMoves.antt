@@ -12,6 +12,9 @@ use Rattle.message_end.specs.Core.Went.{Goes, Spent}
 use Rattle.message_end.specs.Ends.{Input}
 use Rattle.spool_works.specs.declared.ended.Ended.{Ended}
 use Rattle.spool_works.specs.declared.ended.Ended.TheVariants as ended
+use Rattle.gem_recipes.specs.contracts.no_recipes.NoRecipesRecipeKeeper.TheImpl.{ghosts as no_keepers}
+use Rattle.gem_recipes.specs.declared.keeper.RecipeKeeper as keeper
+use Rattle.gem_recipes.specs.declared.no_recipes.NoRecipes.{NoRecipes}
 use Rattle.equipment_node.specs.declared.equipment.Starting.{Starting}
 use Rattle.equipment_node.specs.declared.equipment.Starting.TheVariants as starting
 use Rattle.equipment_tables.specs.declared.plan.EquipmentPlan.{EquipmentPlan}
@@ -21,20 +24,20 @@ use Rattle.equipment_node.specs.SpentSteps.{IsSpentByCause, IsStartSpentByCause}
 use Rattle.tool_law.specs.SpentSteps.{ends_spent, finds_spent}
 use Rattle.tool_law.proofs.SpentCauses.{spent-by-cause}
 
-module _ {D : Type 0} (members : disk.Ghosts D) (h : Held D) (input : Input ToolCommand) (now : ℕ) (out : StepOut)
-    (in_state : IsIn members h)
+module _ {D K : Type 0} (members : disk.Ghosts D) (keepers : keeper.Ghosts K) (h : Held D K) (input : Input ToolCommand)
+    (now : ℕ) (out : StepOut) (in_state : IsIn members keepers h)
   where
-    cause : finds_spent (view_in members h) input now ≡ ends_spent (act (view_in members h) input now)
+    cause : finds_spent (view_in members keepers h) input now ≡ ends_spent (act (view_in members keepers h) input now)
     cause =
         let made = in_state.on.made in
-        sym (spent-by-cause made.plan made.base made.doings (view_in members h) input now made.did)
+        sym (spent-by-cause made.plan made.base made.doings (view_in members keepers h) input now made.did)
 
-    so : (went : Went EquipmentView Happening) → act (view_in members h) input now ≡ went
-        → finds_spent (view_in members h) input now ≡ ends_spent went
+    so : (went : Went EquipmentView Happening) → act (view_in members keepers h) input now ≡ went
+        → finds_spent (view_in members keepers h) input now ≡ ends_spent went
     so went is = cause ∙ ap (λ (w : Went EquipmentView Happening). ends_spent w) is
 
-    pub moved-by-cause : (result : Result (Held D) (Ended D)) → Moves members h input now out result
-        → IsSpentByCause members h input now result
+    pub moved-by-cause : (result : Result (Held D K) (Ended D)) → Moves members keepers h input now out result
+        → IsSpentByCause members keepers h input now result
     moved-by-cause (Ok k) moved = so _ moved.gone.is
     moved-by-cause (Err (ended.NumbersSpent spent)) moved = so _ moved.0.is
     moved-by-cause (Err (ended.DiskFailed spent)) moved = tt
@@ -54,11 +57,11 @@ goes-on plan file step = go (is_marked_out file.mark.value)
 
 pub begun-by-cause :
     {D : Type 0} (members : disk.Ghosts D) (plan : EquipmentPlan) (s : Story) (out : StepOut)
-    (result : Result (Held D) (Starting D))
-    → Begins members plan s out result → IsStartSpentByCause (file_in s.now.bytes) result
+    (result : Result (Held D NoRecipes) (Starting D NoRecipes))
+    → Begins members no_keepers plan s out result → IsStartSpentByCause (file_in s.now.bytes) result
 begun-by-cause members plan s out (Ok h) begun =
     goes-on plan (file_in s.now.bytes) begun.gone.step begun.gone.is
-begun-by-cause members plan s out (Err (starting.NumbersSpent spent)) begun = begun.1
-begun-by-cause members plan s out (Err (starting.NotSpool raw break)) begun = tt
-begun-by-cause members plan s out (Err (starting.DiskFailed spent)) begun = tt
-begun-by-cause members plan s out (Err (starting.NoMemory spent)) begun = tt
+begun-by-cause members plan s out (Err (starting.NumbersSpent spent keeper)) begun = begun.1
+begun-by-cause members plan s out (Err (starting.NotSpool raw break keeper)) begun = tt
+begun-by-cause members plan s out (Err (starting.DiskFailed spent keeper)) begun = tt
+begun-by-cause members plan s out (Err (starting.NoMemory spent keeper)) begun = tt

@@ -8,6 +8,7 @@ use Rattle.gem_spool.specs.declared.spool.GemSpool.{GemSpool}
 use Rattle.gem_spool.specs.Spool.{ReservesFrom}
 use Rattle.message_flow.specs.declared.step.StepOut.{StepOut}
 use Rattle.equipment_tables.specs.declared.plan.EquipmentPlan.{EquipmentPlan}
+use Rattle.gem_recipes.specs.declared.no_recipes.NoRecipes.{NoRecipes}
 use Rattle.equipment_node.specs.declared.equipment.Starting.{Starting}
 use Rattle.equipment_node.specs.Held.{Held}
 use Rattle.gem_spool.specs.declared.works.Work.{Work}
@@ -39,8 +40,9 @@ used-sure a b calls bytes used is = record {
 pub start-sure :
     {D : Type 0} (members : disk.Ghosts D) (g h : GemSpool D) (base : ℕ) → ReservesFrom members g h (Some base)
     → (plan : EquipmentPlan) (setup : Option (List Entry)) (sizes : List ℕ) (other : ℕ) (out_old out_new : StepOut)
-    (result : Result (Held D) (Starting D)) → StartsWith plan h setup sizes other out_old out_new result
-    → IfOk result (λ (e : Held D). KeepsSure members g.spool.disk e.spool.spool.disk)
+    (result : Result (Held D NoRecipes) (Starting D NoRecipes))
+    → StartsWith plan h setup sizes other out_old out_new result
+    → IfOk result (λ (e : Held D NoRecipes). KeepsSure members g.spool.disk e.spool.spool.disk)
 start-sure {D} members g h base reserves plan setup sizes other out_old out_new (Ok e) starts =
     subst (λ (k : GemSpool D). KeepsSure members g.spool.disk k.spool.disk) (sym starts.0)
     (used-sure (members.health g.spool.disk) (members.health h.spool.disk) 5 9 reserves.0.0.1.0.cause)

@@ -25,6 +25,8 @@ use Rattle.spool_slots.specs.declared.states.Recovering.TheVariants as recoverin
 use Rattle.spool_slots.specs.declared.states.Reserving.TheVariants as reserving
 use Rattle.spool_slots.specs.declared.states.Spent.{Spent as Device}
 use Rattle.equipment_tables.specs.declared.plan.EquipmentPlan.{EquipmentPlan}
+use Rattle.gem_recipes.specs.declared.no_recipes.NoRecipes.{NoRecipes}
+use Rattle.equipment_node.specs.Keeping.{no_keeper}
 use Rattle.equipment_node.specs.declared.equipment.Starting.{Starting}
 use Rattle.equipment_node.specs.declared.equipment.Starting.TheVariants as starting
 use Rattle.spool_works.specs.DiskCalls.{HasFailedIn, HasMade}
@@ -60,13 +62,14 @@ module _ {D : Type 0} (members : disk.Ghosts D) where
     where
       pub mark-moved :
           (plan : EquipmentPlan) (h : GemSpool D) (setup : Option (List Entry)) (sizes : List ℕ) (base first : ℕ)
-          (out_old out_new : StepOut) (result : Result (Held D) (Starting D)) → ReservesFrom members g h (Some base)
+          (out_old out_new : StepOut) (result : Result (Held D NoRecipes) (Starting D NoRecipes))
+          → ReservesFrom members g h (Some base)
           → StartsWith plan h setup sizes first out_old out_new result
           → StartMoves members g.spool.disk [] (reserve_calls st.file) result
       mark-moved plan h setup sizes base first out_old out_new (Ok e) done is =
           subst (λ (x : GemSpool D). HasMade members g.spool.disk x.spool.disk (reserve_calls st.file)) (sym is.0)
           (mark-made members g.spool h.spool.disk st stands told.0 told.1 done.0.0)
-      mark-moved plan h setup sizes base first out_old out_new (Err (starting.NoMemory spent)) done is = record {
+      mark-moved plan h setup sizes base first out_old out_new (Err (starting.NoMemory spent keeper)) done is = record {
         first = reserve_calls st.file;
         rest = [];
         are = sym (append-nil (reserve_calls st.file));
@@ -74,19 +77,22 @@ module _ {D : Type 0} (members : disk.Ghosts D) where
             subst (λ (d : D). HasMade members g.spool.disk d (reserve_calls st.file)) (sym is)
             (mark-made members g.spool h.spool.disk st stands told.0 told.1 done.0.0);
       }
-      mark-moved plan h setup sizes base first out_old out_new (Err (starting.NumbersSpent spent)) done is = absurd is
-      mark-moved plan h setup sizes base first out_old out_new (Err (starting.DiskFailed spent)) done is = absurd is
-      mark-moved plan h setup sizes base first out_old out_new (Err (starting.NotSpool raw break)) done is = absurd is
+      mark-moved plan h setup sizes base first out_old out_new (Err (starting.NumbersSpent spent keeper)) done is =
+          absurd is
+      mark-moved plan h setup sizes base first out_old out_new (Err (starting.DiskFailed spent keeper)) done is =
+          absurd is
+      mark-moved plan h setup sizes base first out_old out_new (Err (starting.NotSpool raw break keeper)) done is =
+          absurd is
 
       pub mark-stays :
           (h : GemSpool D) (spent : Device D) → ReservesFrom members g h None → spent.disk ≡ h.spool.disk
-          → StartMoves members g.spool.disk [] (reserve_calls st.file) (Err (starting.NumbersSpent spent))
+          → StartMoves members g.spool.disk [] (reserve_calls st.file) (Err (starting.NumbersSpent spent no_keeper))
       mark-stays h spent done same =
           made-same members g.spool.disk spent.disk (same ∙ ap (λ (x : GemSpool D). x.spool.disk) done.0)
 
       pub move-stops :
           (spent : Device D) → Reserves members g.spool (Err (reserving.Failed spent))
-          → StartMoves members g.spool.disk [] (reserve_calls st.file) (Err (starting.DiskFailed spent))
+          → StartMoves members g.spool.disk [] (reserve_calls st.file) (Err (starting.DiskFailed spent no_keeper))
       move-stops spent done = mark-stops members g.spool spent.disk st stands told.0 told.1 done
 
   -- ---- behind other calls
@@ -102,36 +108,37 @@ module _ {D : Type 0} (members : disk.Ghosts D) where
   }
 
   pub moves-behind :
-      (a b : D) (xs ys moves : List DiskCall) → HasMade members a b xs → (result : Result (Held D) (Starting D))
+      (a b : D) (xs ys moves : List DiskCall) → HasMade members a b xs
+      → (result : Result (Held D NoRecipes) (Starting D NoRecipes))
       → StartMoves members b ys moves result → StartMoves members a (xs ++ ys) moves result
   moves-behind a b xs ys moves made (Ok h) is =
       subst (λ (calls : List DiskCall). HasMade members a h.spool.spool.disk calls) (sym (append_assoc xs ys moves))
       (made-then members a b h.spool.spool.disk xs (ys ++ moves) made is)
-  moves-behind a b xs ys moves made (Err (starting.NoMemory spent)) is =
+  moves-behind a b xs ys moves made (Err (starting.NoMemory spent keeper)) is =
       subst (λ (calls : List DiskCall). HasBegun members a spent.disk calls) (sym (append_assoc xs ys moves))
       (begun-behind a b spent.disk xs (ys ++ moves) made is)
-  moves-behind a b xs ys moves made (Err (starting.NumbersSpent spent)) is =
+  moves-behind a b xs ys moves made (Err (starting.NumbersSpent spent keeper)) is =
       made-then members a b spent.disk xs ys made is
-  moves-behind a b xs ys moves made (Err (starting.DiskFailed spent)) is =
+  moves-behind a b xs ys moves made (Err (starting.DiskFailed spent keeper)) is =
       subst (λ (calls : List DiskCall). HasFailedIn members a spent.disk calls) (sym (append_assoc xs ys moves))
       (failed-behind members a b spent.disk xs (ys ++ moves) made is)
-  moves-behind a b xs ys moves made (Err (starting.NotSpool raw break)) is = absurd is
+  moves-behind a b xs ys moves made (Err (starting.NotSpool raw break keeper)) is = absurd is
 
   -- the spool wasn't made ready
   pub unready-moves :
-      (old : D) (file : SpoolFile) (why : Starting D) → IsUnready members old file why
+      (old : D) (file : SpoolFile) (why : Starting D NoRecipes) → IsUnready members old file why
       → StartMoves members old (ready_calls file) (reserve_calls file) (Err why)
-  unready-moves old file (starting.NoMemory spent) is =
+  unready-moves old file (starting.NoMemory spent keeper) is =
       begun-before members old spent.disk (ready_calls file) (reserve_calls file) is.0
-  unready-moves old file (starting.DiskFailed spent) is =
+  unready-moves old file (starting.DiskFailed spent keeper) is =
       failed-before members old spent.disk (ready_calls file) (reserve_calls file) is.0
-  unready-moves old file (starting.NumbersSpent spent) is = absurd is
-  unready-moves old file (starting.NotSpool raw break) is = absurd is
+  unready-moves old file (starting.NumbersSpent spent keeper) is = absurd is
+  unready-moves old file (starting.NotSpool raw break keeper) is = absurd is
 
   -- it was, and the calls behind are those of its file
   pub ready-moves :
       (v : SpoolView D) (g : GemSpool D) (sizes : List ℕ) → IsMadeReady members v g sizes → IsFresh members v
-      → (result : Result (Held D) (Starting D))
+      → (result : Result (Held D NoRecipes) (Starting D NoRecipes))
       → StartMoves members g.spool.disk [] (reserve_calls (standing_of members g.spool).file) result
       → StartMoves members v.disk (ready_calls (standing_of members v).file)
       (reserve_calls (standing_of members v).file) result
@@ -165,7 +172,7 @@ module _ {D : Type 0} (members : disk.Ghosts D) where
     -- it gives no spool
     pub looked-only :
         (why : Recovering D) → Recovers members old (Err why)
-        → CallsInStart members old s.now.bytes (Err (starting_by why))
+        → CallsInStart members old s.now.bytes (Err (starting_by no_keeper why))
     looked-only (recovering.NotSpool raw break) is = (
       λ sound. absurd (both-not (is.1 s told).0 sound),
       λ breaks.
@@ -192,28 +199,31 @@ module _ {D : Type 0} (members : disk.Ghosts D) where
       looked = made-all members old v.disk finds (is.2 s told sound)
 
       moved-through :
-          (result : Result (Held D) (Starting D))
+          (result : Result (Held D NoRecipes) (Starting D NoRecipes))
           → StartMoves members v.disk (setup_looks here ++ ready_calls here) (reserve_calls here) result
           → StartMoves members old (taking_calls here) (reserve_calls here) result
       moved-through result moves =
           moves-behind old v.disk finds (setup_looks here ++ ready_calls here) (reserve_calls here) looked result moves
 
       pub looked-through :
-          (result : Result (Held D) (Starting D))
+          (result : Result (Held D NoRecipes) (Starting D NoRecipes))
           → StartAsks members v.disk (standing_of members v).file result
           → CallsInStart members old s.now.bytes result
       looked-through result asks =
           go result
           (subst (λ (file : SpoolFile). StartAsks members v.disk file result) (file-is members old s told v is) asks)
         where
-          go : (result : Result (Held D) (Starting D)) → StartAsks members v.disk here result
+          go : (result : Result (Held D NoRecipes) (Starting D NoRecipes)) → StartAsks members v.disk here result
               → CallsInStart members old s.now.bytes result
           go (Ok h) made = moved-through (Ok h) made
-          go (Err (starting.NoMemory spent)) made = moved-through (Err (starting.NoMemory spent)) made
-          go (Err (starting.NumbersSpent spent)) made = moved-through (Err (starting.NumbersSpent spent)) made
-          go (Err (starting.DiskFailed spent)) failed =
-              ((λ whole. moved-through (Err (starting.DiskFailed spent)) failed), (λ breaks. absurd (breaks sound)))
-          go (Err (starting.NotSpool raw break)) made = (
+          go (Err (starting.NoMemory spent keeper)) made = moved-through (Err (starting.NoMemory spent keeper)) made
+          go (Err (starting.NumbersSpent spent keeper)) made =
+              moved-through (Err (starting.NumbersSpent spent keeper)) made
+          go (Err (starting.DiskFailed spent keeper)) failed = (
+            (λ whole. moved-through (Err (starting.DiskFailed spent keeper)) failed),
+            (λ breaks. absurd (breaks sound)),
+          )
+          go (Err (starting.NotSpool raw break keeper)) made = (
             λ whole. made-then members old v.disk raw.disk finds (setup_looks here) looked made,
             λ breaks. absurd (breaks sound),
           )

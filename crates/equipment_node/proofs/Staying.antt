@@ -19,7 +19,7 @@ use Rattle.spool_ledger.specs.declared.unload.Unload.{Unload}
 use Rattle.tool_step.specs.declared.kind.Kind.{Kind}
 use Rattle.tool_step.specs.Own.{OwnView, ToolPart, ToolTurn, is_communicating, unowed, with_ledger, with_tried}
 use Rattle.tool_step.specs.declared.owed.Owed.{Owed}
-use Rattle.tool_step.specs.declared.owed.Owed.TheVariants.{Keep}
+use Rattle.tool_step.specs.declared.owed.Owed.TheVariants.{Answered, Keep, Recipes}
 use Rattle.tool_step.specs.Sent.{grant_item, text_of}
 use Rattle.tool_step.specs.Spooling.{dataid_in, end_of_spooling, inquiry_turn, needs_grant, sent_turn, taking_turn, tried_turn, unload_part, unloaded_own, unloading_turn, waiting_text, stopped_turn}
 use Rattle.tool_step.specs.Step.{answering, last_parts, owed_turn}
@@ -142,6 +142,8 @@ answering-rests own e = go own.owed
     go : (owed : Option Owed) → HasRested own.ledger (owed_turn owed (unowed own)).own.ledger
     go None = same-rests own.ledger
     go (Some (Keep primary)) = same-rests own.ledger
+    go (Some (Recipes asked primary)) = same-rests own.ledger
+    go (Some (Answered given primary)) = same-rests own.ledger
 
 pub last-rested :
     (oldest : Option Spooled) (now : ℕ) (step : Step (Node OwnView Kind) Happening)

@@ -1,5 +1,5 @@
 -- That a step over a disk that stops breaks at the planned call.
-use Rattle.std.proofs.Common.{◌≡◌, refl, sym, ap, subst, ◌∙◌, ◌&&◌, not, Bool, true, false, ℕ, List, [], ◌∷◌}
+use Rattle.std.proofs.Common.{◌≡◌, inr, refl, sym, ap, subst, ◌∙◌, ◌&&◌, not, Bool, true, false, ℕ, List, [], ◌∷◌}
 use Rattle.std.proofs.Common.{◌++◌, append-nil, map, Option, Some, None, is_some}
 use Rattle.std.specs.Prelude.{Result, Ok, Err}
 use Rattle.disk_base.specs.declared.disk.Disk as disk
@@ -30,7 +30,9 @@ use Rattle.spool_ledger.specs.Unloading.{next_number}
 use Rattle.spool_works.specs.declared.ended.Ended.{Ended}
 use Rattle.spool_works.specs.declared.ended.Ended.TheVariants as ended
 use Rattle.tool_step.specs.declared.kind.Kind.{Kind}
-use Rattle.equipment_node.specs.Amid.{Carries, DoesLast, HasCut, IsBegun, IsBegunSpent, IsCounted, Opens, WorksFit}
+use Rattle.gem_recipes.specs.declared.keeper.RecipeKeeper as keeper
+use Rattle.equipment_node.specs.Keeping.{ByDisk, ServesAt}
+use Rattle.equipment_node.specs.Amid.{Carries, HasCut, IsBegun, IsBegunSpent, IsCounted, Opens, WorksFit}
 use Rattle.equipment_node.specs.Amid.{opened}
 use Rattle.equipment_node.specs.Breaking.{BreaksAt, BreaksBy, Passes}
 use Rattle.spool_works.specs.Breaking.{IsGoingDisk}
@@ -44,7 +46,7 @@ use Rattle.tool_step.specs.Equipment.{EquipmentView, begun_step, is_marked_out, 
 use Rattle.tool_step.specs.Equipment.{kept_step, kept_view, settled, settled_step}
 use Rattle.tool_step.specs.Setup.{to_keep}
 use Rattle.tool_step.specs.Losses.{loss_at, losses, losses_of}
-use Rattle.tool_step.specs.Own.{OwnView, ToolPart}
+use Rattle.tool_step.specs.Own.{OwnView}
 use Rattle.equipment_node.specs.Stepping.{IsClear, IsTold}
 use Rattle.equipment_node.proofs.Standings.{opened-behind}
 use Rattle.equipment_node.proofs.Broken.{breaks-before, breaks-behind, broken-before, passed-by, passes-both}
@@ -73,31 +75,43 @@ module _ {D : Type 0} (members : disk.Ghosts D) where
 
   -- some were made, and then others
   pub breaks-then :
-      (old mid : D) (one two : List (Loss EquipmentView)) (notes : List Note)
-      (result : Result (GemSpool D) (Ended D)) → Passes members old one mid
-      → BreaksBy members disk_in mid two notes result → BreaksBy members disk_in old (one ++ two) notes result
-  breaks-then old mid one two notes (Ok g) first later = passes-both members old mid g.spool.disk one two first later
-  breaks-then old mid one two notes (Err (ended.NumbersSpent spent)) first later =
+      {R : Type 0} (disk_of : R → D) (old mid : D) (one two : List (Loss EquipmentView)) (notes : List Note)
+      (result : Result R (Ended D)) → Passes members old one mid
+      → BreaksBy members disk_of mid two notes result → BreaksBy members disk_of old (one ++ two) notes result
+  breaks-then disk_of old mid one two notes (Ok r) first later =
+      passes-both members old mid (disk_of r) one two first later
+  breaks-then disk_of old mid one two notes (Err (ended.NumbersSpent spent)) first later =
       passes-both members old mid spent.disk one two first later
-  breaks-then old mid one two notes (Err (ended.DiskFailed spent)) first later = (
+  breaks-then disk_of old mid one two notes (Err (ended.DiskFailed spent)) first later = (
     λ on.
         breaks-behind members old mid spent.disk one two notes on first
         (later.0 (passed-by members old mid one first on).on),
     missed-behind members old mid spent.disk one two notes first later.1,
   )
-  breaks-then old mid one two notes (Err (ended.NoMemory spent)) first later = tt
+  breaks-then disk_of old mid one two notes (Err (ended.NoMemory spent)) first later = tt
 
   -- the last parts make no call
-  pub last-breaks :
-      (g : GemSpool D) (parts : List ToolPart) (old new : Node OwnView Kind) (out after : StepOut) (notes : List Note)
-      (result : Result (GemSpool D) (Ended D)) → DoesLast members g parts old out new after result
-      → BreaksBy members disk_in g.spool.disk [] notes result
-  last-breaks g parts old new out after notes (Ok h) does =
-      passes-none g.spool.disk h.spool.disk (ap (λ (x : GemSpool D). x.spool.disk) does.0)
-  last-breaks g parts old new out after notes (Err (ended.NumbersSpent spent)) does =
-      passes-none g.spool.disk spent.disk does.0
-  last-breaks g parts old new out after notes (Err (ended.DiskFailed spent)) does = absurd does
-  last-breaks g parts old new out after notes (Err (ended.NoMemory spent)) does = tt
+  pub serves-breaks :
+      {K : Type 0} (keepers : keeper.Ghosts K) (before after : K) (old at : D) (losses : List (Loss EquipmentView))
+      (notes : List Note) (result : Result (GemSpool D) (Ended D)) → Passes members old losses at
+      → ServesAt keepers before after at result
+      → ByDisk keepers before after (BreaksBy members disk_in old losses notes) (Passes members old losses) result
+  serves-breaks keepers before after old at losses notes (Ok g) passes is =
+      subst (λ (d : D). Passes members old losses d) (sym is.0) passes
+  serves-breaks keepers before after old at losses notes (Err (ended.NumbersSpent spent)) passes is =
+      subst (λ (d : D). Passes members old losses d) (sym is.0) passes
+  serves-breaks keepers before after old at losses notes (Err (ended.DiskFailed spent)) passes is =
+      inr (is.1.cause, subst (λ (d : D). Passes members old losses d) (sym is.0) passes)
+  serves-breaks keepers before after old at losses notes (Err (ended.NoMemory spent)) passes is = tt
+
+  -- where it ends, it breaks so whatever would have been handed back
+  pub ended-breaks :
+      {Q R : Type 0} (one : Q → D) (other : R → D) (old : D) (losses : List (Loss EquipmentView)) (notes : List Note)
+      (end : Ended D) → BreaksBy members one old losses notes (Err end)
+      → BreaksBy members other old losses notes (Err end)
+  ended-breaks one other old losses notes (ended.NumbersSpent spent) breaks = breaks
+  ended-breaks one other old losses notes (ended.DiskFailed spent) breaks = breaks
+  ended-breaks one other old losses notes (ended.NoMemory spent) breaks = breaks
 
   -- ---- system bytes that aren't reserved
 
@@ -143,28 +157,13 @@ module _ {D : Type 0} (members : disk.Ghosts D) where
       (owed-made members g works st stands sized told.0 told.1 setup area h carried)
 
   -- the oldest message was read
-  looked-passes :
+  pub looked-passes :
       (s : EquipmentView) (v w : SpoolView D) (slots : ℕ) (st : Standing) (notes : List Happening)
       → Stands members v st → HasReadSlots members v w (oldest_looks v slots) Done
       → Passes members v.disk (losses_of s st [] (ReadOldest slots ∷ []) notes) w.disk
   looked-passes s v w slots st notes stands looked =
       passes-works members s v.disk w.disk (ReadOldest slots ∷ []) st [] notes
       (looked-all members st v stands slots w looked)
-
-  -- and what came behind that makes no call
-  pub looked-breaks :
-      (s : EquipmentView) (v : SpoolView D) (g : GemSpool D) (slots : ℕ) (st : Standing) (front : List Happening)
-      (parts : List ToolPart) (old new : Node OwnView Kind) (out after : StepOut) (notes : List Note)
-      (result : Result (GemSpool D) (Ended D)) → Stands members v st
-      → HasReadSlots members v g.spool (oldest_looks v slots) Done → DoesLast members g parts old out new after result
-      → BreaksBy members disk_in v.disk (losses_of s st [] (ReadOldest slots ∷ []) front) notes result
-  looked-breaks s v g slots st front parts old new out after notes result stands looked does =
-      subst (λ (all : List (Loss EquipmentView)). BreaksBy members disk_in v.disk all notes result) (append-nil lost)
-      (breaks-then v.disk g.spool.disk lost [] notes result (looked-passes s v g.spool slots st front stands looked)
-      (last-breaks g parts old new out after notes result does))
-    where
-      lost : List (Loss EquipmentView)
-      lost = losses_of s st [] (ReadOldest slots ∷ []) front
 
   -- the disk failed as system bytes were reserved
   pub reserve-breaks :
@@ -295,15 +294,15 @@ module _ {D : Type 0} (members : disk.Ghosts D) where
 
     -- all of it
     pub step-breaks :
-        (old mid : D) (notes : List Note) (result : Result (GemSpool D) (Ended D))
+        {R : Type 0} (disk_of : R → D) (old mid : D) (notes : List Note) (result : Result R (Ended D))
         → opening s ≡ Goes (at_first (opened s)) → Passes members old (reserve_losses s (reserve_works s)) mid
-        → BreaksBy members disk_in mid (losses_of s (standing_in (opened s)) [] behind noted) notes result
-        → BreaksBy members disk_in old (losses s input now) notes result
-    step-breaks old mid notes result went first later =
-        subst (λ (all : List (Loss EquipmentView)). BreaksBy members disk_in old all notes result) (sym losses-parted)
-        (breaks-then old mid (reserve_losses s (reserve_works s))
+        → BreaksBy members disk_of mid (losses_of s (standing_in (opened s)) [] behind noted) notes result
+        → BreaksBy members disk_of old (losses s input now) notes result
+    step-breaks disk_of old mid notes result went first later =
+        subst (λ (all : List (Loss EquipmentView)). BreaksBy members disk_of old all notes result) (sym losses-parted)
+        (breaks-then disk_of old mid (reserve_losses s (reserve_works s))
         (losses_of s (standings_behind (standing_in s) (reserve_works s)) [] behind noted) notes result first
-        (subst (λ (st : Standing). BreaksBy members disk_in mid (losses_of s st [] behind noted) notes result)
+        (subst (λ (st : Standing). BreaksBy members disk_of mid (losses_of s st [] behind noted) notes result)
         (sym (opened-behind s went)) later))
 
     -- nothing comes behind a reserve that isn't made
@@ -348,38 +347,39 @@ module _ {D : Type 0} (members : disk.Ghosts D) where
 
         -- the works, and what comes behind them
         pub behind-breaks :
-            (went : opening s ≡ Goes (at_first (opened s))) (h : GemSpool D) (node : Node OwnView Kind) (out : StepOut)
-            (begun : IsBegun s input now node out) (notes : List Note) (result : Result (GemSpool D) (Ended D))
+            {R : Type 0} (disk_of : R → D) (went : opening s ≡ Goes (at_first (opened s))) (h : GemSpool D)
+            (node : Node OwnView Kind) (out : StepOut) (begun : IsBegun s input now node out) (notes : List Note)
+            (result : Result R (Ended D))
             → IsCounted members g.spool node.own.ledger → WorksFit node.own.ledger
             → (is_some (to_keep node.own) ≡ true → is_some (opened s).file.setup.bytes ≡ true)
             → CarriesOwed members g node.own.ledger.works (to_keep node.own) (Ok h)
-            → BreaksBy members disk_in h.spool.disk
+            → BreaksBy members disk_of h.spool.disk
             (losses_of s (standing_in (kept_view (settled begun.step.next))) []
             (read_works (Goes (kept_step (settled_step begun.step)))) begun.step.notes) notes result
-            → BreaksBy members disk_in g.spool.disk (behind_losses (begun_step s input now)) notes result
-        behind-breaks went h node out begun notes result counted fit area carried last =
+            → BreaksBy members disk_of g.spool.disk (behind_losses (begun_step s input now)) notes result
+        behind-breaks disk_of went h node out begun notes result counted fit area carried last =
             subst
-            (λ (w : Went EquipmentView Happening). BreaksBy members disk_in g.spool.disk (behind_losses w) notes result)
+            (λ (w : Went EquipmentView Happening). BreaksBy members disk_of g.spool.disk (behind_losses w) notes result)
             (sym begun.is)
             (subst
             (λ (works : List DiskWork).
-            BreaksBy members disk_in g.spool.disk (losses_of s stood [] works begun.step.notes) notes result)
+            BreaksBy members disk_of g.spool.disk (losses_of s stood [] works begun.step.notes) notes result)
             (sym (all-owed begun.step))
             (subst
-            (λ (all : List (Loss EquipmentView)). BreaksBy members disk_in g.spool.disk all notes result)
+            (λ (all : List (Loss EquipmentView)). BreaksBy members disk_of g.spool.disk all notes result)
             (sym (losses-read s owed oldest reads stood [] begun.step.notes))
-            (breaks-then g.spool.disk h.spool.disk (losses_of s stood [] owed begun.step.notes)
+            (breaks-then disk_of g.spool.disk h.spool.disk (losses_of s stood [] owed begun.step.notes)
             (losses_of s (standings_behind stood owed) [] (read_by oldest reads) begun.step.notes) notes result
             (carried-passes s g h works setup stood begun.step.notes clear.stands told
             (sized begun.step.next.node.own.ledger counted-is fit-is) area-is carried-is)
             (subst
             (λ (x : Standing).
-            BreaksBy members disk_in h.spool.disk (losses_of s x [] (read_by oldest reads) begun.step.notes) notes
+            BreaksBy members disk_of h.spool.disk (losses_of s x [] (read_by oldest reads) begun.step.notes) notes
             result)
             (sym standing)
             (subst
             (λ (b : Bool).
-            BreaksBy members disk_in h.spool.disk
+            BreaksBy members disk_of h.spool.disk
             (losses_of s (standing_in (kept_view (settled begun.step.next))) [] (read_by oldest b) begun.step.notes)
             notes result)
             (takes-settled members s input now begun.step.next) last)))))
@@ -493,17 +493,17 @@ module _ {D : Type 0} (members : disk.Ghosts D) where
   -- ---- the next message is asked for, or none
 
   pub reads-breaks :
-      (s : EquipmentView) (t : Step EquipmentView Happening) (old : D) (notes : List Note)
-      (result : Result (GemSpool D) (Ended D)) (number : Option ℕ)
+      (s : EquipmentView) (t : Step EquipmentView Happening) {R : Type 0} (disk_of : R → D) (old : D)
+      (notes : List Note) (result : Result R (Ended D)) (number : Option ℕ)
       → next_number (most_transmitted t.next.node.own.tables) t.next.node.own.ledger ≡ number
-      → BreaksBy members disk_in old
+      → BreaksBy members disk_of old
       (losses_of s (standing_in t.next) [] (read_by (oldest_of t.next.node.own.ledger.sizes) (is_some number)) t.notes)
       notes result
-      → BreaksBy members disk_in old (losses_of s (standing_in t.next) [] (read_works (Goes t)) t.notes) notes result
-  reads-breaks s t old notes result number is breaks =
+      → BreaksBy members disk_of old (losses_of s (standing_in t.next) [] (read_works (Goes t)) t.notes) notes result
+  reads-breaks s t disk_of old notes result number is breaks =
       subst
       (λ (n : Option ℕ).
-      BreaksBy members disk_in old
+      BreaksBy members disk_of old
       (losses_of s (standing_in t.next) [] (read_by (oldest_of t.next.node.own.ledger.sizes) (is_some n)) t.notes)
       notes result)
       (sym is) breaks

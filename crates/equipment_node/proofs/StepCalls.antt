@@ -1,7 +1,7 @@
 -- That the calls of the disk in a step are those of its works.
-use Rattle.std.proofs.Common.{◌≡◌, refl, sym, ap, subst, ◌∙◌, arith, ℕ, zero, suc, ◌<◌, ◌≤◌, ◌==◌, ◌&&◌, ◌||◌, nat_le}
-use Rattle.std.proofs.Common.{nat_lt, not, Bool, true, false, List, [], ◌∷◌, ◌++◌, append-nil, append_assoc, length, map}
-use Rattle.std.proofs.Common.{Option, Some, None, is_some, if◌then◌else◌}
+use Rattle.std.proofs.Common.{◌≡◌, inr, refl, sym, ap, subst, ◌∙◌, arith, ℕ, zero, suc, ◌<◌, ◌≤◌, ◌==◌, ◌&&◌, ◌||◌}
+use Rattle.std.proofs.Common.{nat_le, nat_lt, not, Bool, true, false, List, [], ◌∷◌, ◌++◌, append-nil, append_assoc}
+use Rattle.std.proofs.Common.{length, map, Option, Some, None, is_some, if◌then◌else◌}
 use Rattle.std.proofs.lemmas.Bool.Decides.{nat_tests}
 use Rattle.std.specs.Prelude.{Result, Ok, Err, is_none}
 use Rattle.disk_base.specs.Calls.{DiskCall}
@@ -35,7 +35,9 @@ use Rattle.spool_ledger.proofs.Widths.{widths-long}
 use Rattle.spool_works.specs.declared.ended.Ended.{Ended}
 use Rattle.spool_works.specs.declared.ended.Ended.TheVariants as ended
 use Rattle.tool_step.specs.declared.kind.Kind.{Kind}
-use Rattle.equipment_node.specs.Amid.{Carries, DoesLast, IsBegun, IsBegunSpent, IsCounted, Opens, WorksFit, opened}
+use Rattle.gem_recipes.specs.declared.keeper.RecipeKeeper as keeper
+use Rattle.equipment_node.specs.Keeping.{ByDisk, ServesAt}
+use Rattle.equipment_node.specs.Amid.{Carries, IsBegun, IsBegunSpent, IsCounted, Opens, WorksFit, opened}
 use Rattle.spool_works.specs.DiskWorks.{DiskWork, standings_behind}
 use Rattle.tool_step.specs.Disk.{read_works, reserve_works, standing_in, works_behind, works_of}
 use Rattle.spool_works.specs.DiskWorks.DiskWork.{Change, Keep, ReadOldest, Reserve}
@@ -44,7 +46,7 @@ use Rattle.spool_works.specs.DiskCalls.{all_disk_calls, disk_calls, disk_in}
 use Rattle.tool_step.specs.Equipment.{EquipmentView, begun_step, is_marked_out, needs_numbers, parts_done}
 use Rattle.tool_step.specs.Equipment.{kept_step, kept_view, reserving as opening, settled, settled_step}
 use Rattle.tool_step.specs.Setup.{to_keep}
-use Rattle.tool_step.specs.Own.{OwnView, ToolPart}
+use Rattle.tool_step.specs.Own.{OwnView}
 use Rattle.tool_step.specs.Step.{first_parts}
 use Rattle.equipment_node.specs.Stepping.{IsClear, IsTold}
 use Rattle.equipment_node.proofs.Standings.{opened-behind}
@@ -70,17 +72,17 @@ module _ {D : Type 0} (members : disk.Ghosts D) where
           (made-then members old mid new (all_disk_calls st xs) (all_disk_calls (standings_behind st xs) ys)
           one two)
 
-      pub called-then :
-          (ys : List DiskWork) (result : Result (GemSpool D) (Ended D))
-          → HasCalled members disk_in mid (standings_behind st xs) ys result
-          → HasCalled members disk_in old st (xs ++ ys) result
-      called-then ys (Ok g) two = all-behind g.spool.disk ys two
-      called-then ys (Err (ended.NumbersSpent spent)) two = all-behind spent.disk ys two
-      called-then ys (Err (ended.DiskFailed spent)) two =
+      called-then :
+          {R : Type 0} (disk_of : R → D) (ys : List DiskWork) (result : Result R (Ended D))
+          → HasCalled members disk_of mid (standings_behind st xs) ys result
+          → HasCalled members disk_of old st (xs ++ ys) result
+      called-then disk_of ys (Ok r) two = all-behind (disk_of r) ys two
+      called-then disk_of ys (Err (ended.NumbersSpent spent)) two = all-behind spent.disk ys two
+      called-then disk_of ys (Err (ended.DiskFailed spent)) two =
           subst (λ (calls : List DiskCall). HasFailedIn members old spent.disk calls) (sym (both-calls st xs ys))
           (failed-behind members old mid spent.disk (all_disk_calls st xs)
           (all_disk_calls (standings_behind st xs) ys) one two)
-      called-then ys (Err (ended.NoMemory spent)) two = record {
+      called-then disk_of ys (Err (ended.NoMemory spent)) two = record {
         first = xs ++ two.first;
         rest = two.rest;
         are = ap (λ (all : List DiskWork). xs ++ all) two.are ∙ sym (append_assoc xs two.first two.rest);
@@ -182,15 +184,17 @@ module _ {D : Type 0} (members : disk.Ghosts D) where
   module _ (s : EquipmentView) (input : Input ToolCommand) (now : ℕ) where
     -- all of it
     pub step-called :
-        (old mid : D) (result : Result (GemSpool D) (Ended D)) → opening s ≡ Goes (at_first (opened s))
+        {R : Type 0} (disk_of : R → D) (old mid : D) (result : Result R (Ended D))
+        → opening s ≡ Goes (at_first (opened s))
         → HasMade members old mid (all_disk_calls (standing_in s) (reserve_works s))
-        → HasCalled members disk_in mid (standing_in (opened s)) (works_behind (begun_step s input now)) result
-        → HasCalled members disk_in old (standing_in s) (works_of s input now) result
-    step-called old mid result went first later =
-        called-then old mid (standing_in s) (reserve_works s) first (works_behind (begun_step s input now)) result
+        → HasCalled members disk_of mid (standing_in (opened s)) (works_behind (begun_step s input now)) result
+        → HasCalled members disk_of old (standing_in s) (works_of s input now) result
+    step-called disk_of old mid result went first later =
+        called-then old mid (standing_in s) (reserve_works s) first disk_of (works_behind (begun_step s input now))
+        result
         (subst
         (λ (st : Standing).
-        HasCalled members disk_in mid st (works_behind (begun_step s input now)) result)
+        HasCalled members disk_of mid st (works_behind (begun_step s input now)) result)
         (sym (opened-behind s went)) later)
 
     -- nothing is owed where no system bytes are left
@@ -241,33 +245,35 @@ module _ {D : Type 0} (members : disk.Ghosts D) where
 
         -- the works, and what comes behind them
         pub behind-called :
-            (went : opening s ≡ Goes (at_first (opened s))) (h : GemSpool D) (node : Node OwnView Kind) (out : StepOut)
-            (begun : IsBegun s input now node out) (result : Result (GemSpool D) (Ended D))
+            {R : Type 0} (disk_of : R → D) (went : opening s ≡ Goes (at_first (opened s))) (h : GemSpool D)
+            (node : Node OwnView Kind) (out : StepOut) (begun : IsBegun s input now node out)
+            (result : Result R (Ended D))
             → IsCounted members g.spool node.own.ledger → WorksFit node.own.ledger
             → (is_some (to_keep node.own) ≡ true → is_some (opened s).file.setup.bytes ≡ true)
             → CarriesOwed members g node.own.ledger.works (to_keep node.own) (Ok h)
-            → HasCalled members disk_in h.spool.disk (standing_in (kept_view (settled begun.step.next)))
+            → HasCalled members disk_of h.spool.disk (standing_in (kept_view (settled begun.step.next)))
             (read_works (Goes (kept_step (settled_step begun.step)))) result
-            → HasCalled members disk_in g.spool.disk stood (works_behind (begun_step s input now)) result
-        behind-called went h node out begun result counted fit area carried last =
+            → HasCalled members disk_of g.spool.disk stood (works_behind (begun_step s input now)) result
+        behind-called disk_of went h node out begun result counted fit area carried last =
             subst
             (λ (w : Went EquipmentView Happening).
-            HasCalled members disk_in g.spool.disk stood (works_behind w) result) (sym begun.is)
+            HasCalled members disk_of g.spool.disk stood (works_behind w) result) (sym begun.is)
             (subst
             (λ (keep : List DiskWork).
-            HasCalled members disk_in g.spool.disk stood (map Change works ++ keep ++ read_works (Goes begun.step)) result)
+            HasCalled members disk_of g.spool.disk stood
+            (map Change works ++ keep ++ read_works (Goes begun.step)) result)
             (sym (keeps-by members s input now setup))
             (called-then g.spool.disk h.spool.disk stood (owed_works works setup)
             (owed-made members g works stood clear.stands
-            (sized begun.step.next.node.own.ledger counted-is fit-is) told.0 told.1 setup area-is h carried-is)
+            (sized begun.step.next.node.own.ledger counted-is fit-is) told.0 told.1 setup area-is h carried-is) disk_of
             (read_works (Goes begun.step)) result
             (subst
             (λ (x : Standing).
-            HasCalled members disk_in h.spool.disk x (read_works (Goes begun.step)) result)
+            HasCalled members disk_of h.spool.disk x (read_works (Goes begun.step)) result)
             (sym standing)
             (subst
             (λ (b : Bool).
-            HasCalled members disk_in h.spool.disk (standing_in (kept_view (settled begun.step.next)))
+            HasCalled members disk_of h.spool.disk (standing_in (kept_view (settled begun.step.next)))
             (if b then ReadOldest (oldest_of begun.step.next.node.own.ledger.sizes) ∷ [] else []) result)
             (takes-settled members s input now begun.step.next) last))))
           where
@@ -377,17 +383,37 @@ module _ {D : Type 0} (members : disk.Ghosts D) where
   -- ---- what comes behind the works
 
   -- the last parts make no call
-  pub last-called :
-      (st : Standing) (g : GemSpool D) (parts : List ToolPart) (old new : Node OwnView Kind)
-      (out after : StepOut) (result : Result (GemSpool D) (Ended D)) → DoesLast members g parts old out new after result
-      → HasCalled members disk_in g.spool.disk st [] result
-  last-called st g parts old new out after (Ok h) does =
-      made-same members g.spool.disk h.spool.disk (ap (λ (x : GemSpool D). x.spool.disk) does.0)
-  last-called st g parts old new out after (Err (ended.NumbersSpent spent)) does =
-      made-same members g.spool.disk spent.disk does.0
-  last-called st g parts old new out after (Err (ended.DiskFailed spent)) does = absurd does
-  last-called st g parts old new out after (Err (ended.NoMemory spent)) does =
-      none-begun g.spool.disk spent.disk st [] does
+  pub serves-called :
+      {K : Type 0} (keepers : keeper.Ghosts K) (before after : K) (old at : D) (st : Standing) (works : List DiskWork)
+      (result : Result (GemSpool D) (Ended D)) → HasMade members old at (all_disk_calls st works)
+      → ServesAt keepers before after at result
+      → ByDisk keepers before after (HasCalled members disk_in old st works)
+      (λ (d : D). HasMade members old d (all_disk_calls st works)) result
+  serves-called keepers before after old at st works (Ok g) made is =
+      subst (λ (d : D). HasMade members old d (all_disk_calls st works)) (sym is.0) made
+  serves-called keepers before after old at st works (Err (ended.NumbersSpent spent)) made is =
+      subst (λ (d : D). HasMade members old d (all_disk_calls st works)) (sym is.0) made
+  serves-called keepers before after old at st works (Err (ended.DiskFailed spent)) made is =
+      inr (is.1.cause, subst (λ (d : D). HasMade members old d (all_disk_calls st works)) (sym is.0) made)
+  serves-called keepers before after old at st works (Err (ended.NoMemory spent)) made is = record {
+    first = works;
+    rest = [];
+    are = sym (append-nil works);
+    reads = [];
+    are_reads = refl;
+    made =
+        subst (λ (calls : List DiskCall). HasMade members old spent.disk calls)
+        (sym (append-nil (all_disk_calls st works)))
+        (subst (λ (d : D). HasMade members old d (all_disk_calls st works)) (sym is.0) made);
+  }
+
+  -- where it ends, the calls are the same whatever would have been handed back
+  pub ended-called :
+      {Q R : Type 0} (one : Q → D) (other : R → D) (old : D) (st : Standing) (works : List DiskWork) (end : Ended D)
+      → HasCalled members one old st works (Err end) → HasCalled members other old st works (Err end)
+  ended-called one other old st works (ended.NumbersSpent spent) called = called
+  ended-called one other old st works (ended.DiskFailed spent) called = called
+  ended-called one other old st works (ended.NoMemory spent) called = called
 
   module _ (st : Standing) (v : SpoolView D) (stands : Stands members v st) where
     pub below : v.first ≤ v.next
@@ -407,15 +433,6 @@ module _ {D : Type 0} (members : disk.Ghosts D) where
           subst (λ (calls : List DiskCall). HasMade members v.disk w.disk calls)
           (sym (append-nil (disk_calls st (ReadOldest slots))))
           (look-made members v w st slots stands.count below looked)
-
-      pub looked-called :
-          (g : GemSpool D) (parts : List ToolPart) (old new : Node OwnView Kind) (out after : StepOut)
-          (result : Result (GemSpool D) (Ended D)) → HasReadSlots members v g.spool (oldest_looks v slots) Done
-          → DoesLast members g parts old out new after result
-          → HasCalled members disk_in v.disk st (ReadOldest slots ∷ []) result
-      looked-called g parts old new out after result looked does =
-          called-then v.disk g.spool.disk st (ReadOldest slots ∷ []) (looked-all g.spool looked) [] result
-          (last-called st g parts old new out after result does)
 
       pub look-called :
           (w : SpoolView D) (spent : Device D) → HasReadSlots members v w (oldest_looks v slots) Failed
@@ -439,26 +456,27 @@ module _ {D : Type 0} (members : disk.Ghosts D) where
     some-there none some =
         let len = ap (λ (c : Count). c.len) stands.count in omega (arith, none, some, len)
 
-  module _ (t : Step EquipmentView Happening) (old : D) (result : Result (GemSpool D) (Ended D)) where
-    abbrev most : ℕ
-    most = most_transmitted t.next.node.own.tables
+  module _ (t : Step EquipmentView Happening) {R : Type 0} (disk_of : R → D) (old : D) (result : Result R (Ended D))
+    where
+      abbrev most : ℕ
+      most = most_transmitted t.next.node.own.tables
 
-    abbrev oldest : ℕ
-    oldest = oldest_of t.next.node.own.ledger.sizes
+      abbrev oldest : ℕ
+      oldest = oldest_of t.next.node.own.ledger.sizes
 
-    abbrev read_by : Option ℕ → List DiskWork
-    read_by number = if is_some number then ReadOldest oldest ∷ [] else []
+      abbrev read_by : Option ℕ → List DiskWork
+      read_by number = if is_some number then ReadOldest oldest ∷ [] else []
 
-    -- the next message is asked for, or none
-    pub reads-by :
-        (number : Option ℕ) → next_number most t.next.node.own.ledger ≡ number
-        → HasCalled members disk_in old (standing_in t.next) (read_by number) result
-        → HasCalled members disk_in old (standing_in t.next) (read_works (Goes t)) result
-    reads-by number is called =
-        subst
-        (λ (n : Option ℕ).
-        HasCalled members disk_in old (standing_in t.next) (if is_some n then ReadOldest oldest ∷ [] else []) result)
-        (sym is) called
+      -- the next message is asked for, or none
+      pub reads-by :
+          (number : Option ℕ) → next_number most t.next.node.own.ledger ≡ number
+          → HasCalled members disk_of old (standing_in t.next) (read_by number) result
+          → HasCalled members disk_of old (standing_in t.next) (read_works (Goes t)) result
+      reads-by number is called =
+          subst
+          (λ (n : Option ℕ).
+          HasCalled members disk_of old (standing_in t.next) (if is_some n then ReadOldest oldest ∷ [] else []) result)
+          (sym is) called
 
 -- it is asked for only where there is one
 some-left : (most : ℕ) (v : LedgerView) (n : ℕ) → next_number most v ≡ Some n → 0 < length v.sizes

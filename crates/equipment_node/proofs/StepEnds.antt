@@ -1,7 +1,7 @@
 -- How a step over a disk in memory ends, and where a planned call has stopped the disk.
-use Rattle.std.proofs.Common.{◌≡◌, refl, sym, ap, subst, ◌∙◌, Bool, true, false, ℕ, List, [], Option, Some, None}
-use Rattle.std.proofs.Common.{is_some}
-use Rattle.std.specs.Prelude.{IfSome, Err}
+use Rattle.std.proofs.Common.{◌≡◌, refl, sym, ap, subst, ◌∙◌, arith, inl, inr, Bool, true, false, ℕ, List, []}
+use Rattle.std.proofs.Common.{Option, Some, None, is_some}
+use Rattle.std.specs.Prelude.{IfSome, Result, Err}
 use Rattle.disk_base.specs.MemDisk.{DiskState, HasFitted, disk_health}
 use Rattle.disk_base.specs.contracts.mem_disk.MemDiskDisk.TheImpl.{ghosts}
 use Rattle.disk_base.specs.declared.cut.CutChoice.{CutChoice}
@@ -18,9 +18,11 @@ use Rattle.message_end.specs.Ends.Passing.{Cuts, Passes as PassesAll}
 use Rattle.equipment_tables.specs.declared.plan.EquipmentPlan.{EquipmentPlan}
 use Rattle.spool_works.specs.declared.ended.Ended.{Ended}
 use Rattle.spool_works.specs.declared.ended.Ended.TheVariants as ended
+use Rattle.gem_recipes.specs.contracts.no_recipes.NoRecipesRecipeKeeper.TheImpl.{ghosts as no_keepers}
+use Rattle.gem_recipes.specs.declared.no_recipes.NoRecipes.{NoRecipes}
 use Rattle.equipment_node.specs.Breaking.{BreaksBy, HasBrokenAt, Passes}
 use Rattle.spool_works.specs.Breaking.{IsGoingDisk, LeavesImages}
-use Rattle.spool_works.specs.DiskCalls.{HasCalled, HasFailedIn, all_disk_calls}
+use Rattle.spool_works.specs.DiskCalls.{HasCalled, HasFailedIn, HasMade, all_disk_calls}
 use Rattle.tool_step.specs.Disk.{standing_in, works_of}
 use Rattle.equipment_node.specs.DiskCalls.{disk_held}
 use Rattle.tool_step.specs.End.{machine}
@@ -28,6 +30,7 @@ use Rattle.tool_step.specs.Equipment.{EquipmentView, act, begun_step, restarts, 
 use Rattle.equipment_node.specs.Held.{HasMoved, Held, view_in}
 use Rattle.equipment_node.specs.InMemory.{FitsLeft, HasPower, IsBounded, IsLost, IsStopOf, IsWhole, StopsAs, anew_over}
 use Rattle.equipment_node.specs.InMemory.{disk_reach, file_cut, lost_by, lost_if}
+use Rattle.equipment_node.specs.Keeping.{ByDisk}
 use Rattle.gem_spool.specs.Updates.{Left}
 use Rattle.tool_law.proofs.Lawful.{IsGoodView, act-good}
 use Rattle.tool_law.proofs.LawfulLosses.{LeavesWell, all-well}
@@ -39,11 +42,25 @@ use Rattle.equipment_node.specs.Stepping.{IsMade, stop_by}
 use Rattle.equipment_node.proofs.Broken.{passed-by}
 use Rattle.equipment_node.proofs.Reaching.{cut-at, lacked, reached}
 
-module _ (plan : EquipmentPlan) (h : Held DiskState) (power : HasPower ghosts plan h) (input : Input ToolCommand)
-    (now : ℕ) (out : StepOut)
+-- a keeper of no recipes doesn't fail, so it is the disk that has
+by-the-disk :
+    {D R : Type 0} (before after : NoRecipes) (By : Result R (Ended D) → Type 0) (Unserved : D → Type 0) (end : Ended D)
+    → ByDisk no_keepers before after By Unserved (Err end) → By (Err end)
+by-the-disk before after By Unserved (ended.NoMemory spent) is = is
+by-the-disk before after By Unserved (ended.NumbersSpent spent) is = is
+by-the-disk before after By Unserved (ended.DiskFailed spent) (inl is) = is
+by-the-disk before after By Unserved (ended.DiskFailed spent) (inr unserved) =
+    let rose = unserved.0.by_one in absurd (omega (arith, rose))
+
+module _
+    (plan : EquipmentPlan) (h : Held DiskState NoRecipes) (power : HasPower ghosts plan h)
+    (input : Input ToolCommand) (now : ℕ) (out : StepOut)
   where
+    abbrev held : Held DiskState NoRecipes → DiskState
+    held = disk_held
+
     abbrev s : EquipmentView
-    s = view_in ghosts h
+    s = view_in ghosts no_keepers h
 
     abbrev some : List (Loss EquipmentView)
     some = losses s input now
@@ -73,7 +90,7 @@ module _ (plan : EquipmentPlan) (h : Held DiskState) (power : HasPower ghosts pl
 
     -- ---- it goes on
 
-    module _ (k : Held DiskState) (moved : HasMoved ghosts h input now out k)
+    module _ (k : Held DiskState NoRecipes) (moved : HasMoved ghosts no_keepers h input now out k)
         (passes : Passes ghosts disk some k.spool.spool.disk) (fitted : HasFitted k.spool.spool.disk)
       where
         pub ok-ends :
@@ -84,7 +101,7 @@ module _ (plan : EquipmentPlan) (h : Held DiskState) (power : HasPower ghosts pl
           ap (λ (o : Option DiskState). is_some o) none,
         )
 
-        next-is : (step_in (act s input now)).next ≡ view_in ghosts k
+        next-is : (step_in (act s input now)).next ≡ view_in ghosts no_keepers k
         next-is =
             ap (λ (went : Went EquipmentView Happening). (step_in went).next) moved.gone.is ∙ moved.gone.next_is
 
@@ -155,7 +172,7 @@ module _ (plan : EquipmentPlan) (h : Held DiskState) (power : HasPower ghosts pl
 
     -- ---- it ends
 
-    abbrev Ends : Option (Held DiskState) → Option DiskState → Reach → Stop → Type 0
+    abbrev Ends : Option (Held DiskState NoRecipes) → Option DiskState → Reach → Stop → Type 0
     Ends going lost after why =
         EndsBy machine some (disk_reach disk) after (is_some lost)
         (λ choice later. anew_over ghosts plan going lost choice later) out (Err why)
@@ -164,7 +181,7 @@ module _ (plan : EquipmentPlan) (h : Held DiskState) (power : HasPower ghosts pl
     Images lost = IfSome lost (λ (d : DiskState). LeavesImages d.story)
 
     module _ (spent : Device DiskState)
-        (breaks : BreaksBy ghosts disk_held disk some out.notes (Err (ended.DiskFailed spent)))
+        (breaks : BreaksBy ghosts held disk some out.notes (Err (ended.DiskFailed spent)))
         (failed : HasFailedIn ghosts disk spent.disk (all_disk_calls (standing_in s) (works_of s input now)))
         (fitted : HasFitted spent.disk)
       where
@@ -200,10 +217,10 @@ module _ (plan : EquipmentPlan) (h : Held DiskState) (power : HasPower ghosts pl
         failed-whole false so images = tt
 
     abbrev Breaks : Ended DiskState → Type 0
-    Breaks end = BreaksBy ghosts disk_held disk some out.notes (Err end)
+    Breaks end = BreaksBy ghosts held disk some out.notes (Err end)
 
     abbrev Called : Ended DiskState → Type 0
-    Called end = HasCalled ghosts disk_held disk (standing_in s) (works_of s input now) (Err end)
+    Called end = HasCalled ghosts held disk (standing_in s) (works_of s input now) (Err end)
 
     ends-at :
         (end : Ended DiskState) (after : Reach) → Images (lost_by end) → Breaks end → Called end → FitsLeft end
@@ -227,21 +244,36 @@ module _ (plan : EquipmentPlan) (h : Held DiskState) (power : HasPower ghosts pl
         failed-whole spent breaks called fitted spent.disk.plan.stopped refl images
 
     module _ (end : Ended DiskState) (lost : Option DiskState) (lost-is : lost ≡ lost_by end) (images : Images lost)
-        (going : Option (Held DiskState)) (gone : going ≡ None) (breaks : Breaks end) (called : Called end)
+        (going : Option (Held DiskState NoRecipes)) (gone : going ≡ None) (before after : NoRecipes)
+        (broke :
+        ByDisk no_keepers before after (BreaksBy ghosts held disk some out.notes) (Passes ghosts disk some)
+        (Err end))
+        (asked :
+        ByDisk no_keepers before after (HasCalled ghosts held disk (standing_in s) (works_of s input now))
+        (λ later. HasMade ghosts disk later (all_disk_calls (standing_in s) (works_of s input now))) (Err end))
         (fitted : FitsLeft end)
       where
+        breaks : Breaks end
+        breaks =
+            by-the-disk before after (BreaksBy ghosts held disk some out.notes) (Passes ghosts disk some) end broke
+
+        called : Called end
+        called =
+            by-the-disk before after (HasCalled ghosts held disk (standing_in s) (works_of s input now))
+            (λ later. HasMade ghosts disk later (all_disk_calls (standing_in s) (works_of s input now))) end asked
+
         images-by : Images (lost_by end)
         images-by = subst Images lost-is images
 
-        pub err-ends : (after : Reach) (why : Stop) → IsStopOf end why → Ends going lost after why
-        err-ends after why is =
-            subst (λ (o : Option (Held DiskState)). Ends o lost after why) (sym gone)
-            (subst (λ (o : Option DiskState). Ends None o after why) (sym lost-is)
-            (ends-at end after images-by breaks called fitted why is))
+        pub err-ends : (reach : Reach) (why : Stop) → IsStopOf end why → Ends going lost reach why
+        err-ends reach why is =
+            subst (λ (o : Option (Held DiskState NoRecipes)). Ends o lost reach why) (sym gone)
+            (subst (λ (o : Option DiskState). Ends None o reach why) (sym lost-is)
+            (ends-at end reach images-by breaks called fitted why is))
 
         pub err-whole : IsWhole ghosts plan going lost
         err-whole =
-            subst (λ (o : Option (Held DiskState)). IsWhole ghosts plan o lost) (sym gone)
+            subst (λ (o : Option (Held DiskState NoRecipes)). IsWhole ghosts plan o lost) (sym gone)
             (subst (λ (o : Option DiskState). IsWhole ghosts plan None o) (sym lost-is)
             (whole-at end images-by breaks called fitted))
 

@@ -1,5 +1,6 @@
 -- What the code says of the pieces of a step over the disk.
-use Rattle.std.specs.Prelude.{◌≡◌, ℕ, Bool, true, All, is_some, List, [], ◌∷◌, map, Option, Some, None, Result, Ok, Err, if◌then◌else◌}
+use Rattle.std.specs.Prelude.{◌≡◌, ◌⊎◌, ℕ, Bool, true, All, is_some, List, [], ◌∷◌, map, Option, Some, None, Result, Ok}
+use Rattle.std.specs.Prelude.{Err, if◌then◌else◌}
 use Rattle.disk_base.specs.Story.{Story}
 use Rattle.disk_base.specs.Through.{EachImage}
 use Rattle.disk_base.specs.declared.disk.Disk as disk
@@ -19,7 +20,7 @@ use Rattle.trace_log.specs.Names.{Spooled}
 use Rattle.trace_log.specs.Text.{printed_note}
 use Rattle.message_end.specs.declared.end.Stop.{Stop}
 use Rattle.message_end.specs.declared.end.Stop.TheVariants as stop
-use Rattle.message_end.specs.Core.{Step, at_first}
+use Rattle.message_end.specs.Core.{Step, at_first, step_in}
 use Rattle.message_end.specs.Core.Went.{Goes, Spent as SpentAt}
 use Rattle.message_end.specs.Ends.{Input, printed}
 use Rattle.message_end.specs.Parts.{Node, after_parts, closes, on_the_way}
@@ -38,10 +39,11 @@ use Rattle.equipment_node.specs.Cut.{cut_at}
 use Rattle.tool_step.specs.Disk.{reserve_works, standing_in, takes_up}
 use Rattle.spool_works.specs.DiskWorks.DiskWork.{Reserve}
 use Rattle.tool_step.specs.Equipment.{EquipmentView, act, begun_step, ended_step, needs_numbers, reserved, reserving}
-use Rattle.tool_step.specs.Equipment.{settled_own}
+use Rattle.tool_step.specs.Equipment.{served_own, served_step, settled_own}
 use Rattle.tool_step.specs.Left.{Holds}
 use Rattle.tool_step.specs.Setup.{to_keep}
 use Rattle.tool_step.specs.Own.{OwnView, ToolPart, with_ledger}
+use Rattle.tool_step.specs.Recipes.{RecipesView, owes_recipes}
 use Rattle.tool_step.specs.Spooling.{end_of_spooling}
 use Rattle.tool_step.specs.Step.{answering, offer}
 use Rattle.tool_step.specs.Taking.{taking}
@@ -112,6 +114,7 @@ pub record IsBegun (s : EquipmentView) (input : Input ToolCommand) (now : ℕ) (
   pub is : begun_step s input now ≡ Goes step
   pub node_is : step.next.node ≡ node
   pub file : step.next.file ≡ (opened s).file
+  pub recipes : step.next.recipes ≡ s.recipes
   pub notes : out.notes ≡ printed step.notes
   pub written : out.line.items ≡ step.written
 
@@ -192,6 +195,22 @@ DoesLast members g parts old out_old new out_new (Err (ended.NumbersSpent spent)
 DoesLast members g parts old out_old new out_new (Err (ended.DiskFailed spent)) = ⊥
 DoesLast members g parts old out_old new out_new (Err (ended.NoMemory spent)) = spent.disk ≡ g.spool.disk
 
+-- what the recipes make of it that are kept, where they are asked
+abbrev pub served_node : RecipesView → Node OwnView Kind → Node OwnView Kind
+served_node kept node = record node { own = served_own kept node.own }
+
+-- the recipes are asked, and then they are done; or the keeper has failed, and nothing was noted by then
+abbrev pub ServesLast :
+    {D : Type 0} → disk.Ghosts D → RecipesView → GemSpool D → List ToolPart → Node OwnView Kind → StepOut
+    → Node OwnView Kind → StepOut → Result (GemSpool D) (Ended D) → Type 0
+ServesLast members kept g parts old out_old new out_new (Ok h) =
+    DoesLast members g parts (served_node kept old) out_old new out_new (Ok h)
+ServesLast members kept g parts old out_old new out_new (Err (ended.NumbersSpent spent)) =
+    DoesLast members g parts (served_node kept old) out_old new out_new (Err (ended.NumbersSpent spent))
+ServesLast members kept g parts old out_old new out_new (Err (ended.DiskFailed spent)) =
+    (spent.disk ≡ g.spool.disk) × (owes_recipes old.own.owed ≡ true) × (out_new.notes ≡ out_old.notes)
+ServesLast members kept g parts old out_old new out_new (Err (ended.NoMemory spent)) = spent.disk ≡ g.spool.disk
+
 -- a step so far, as the code has it
 pub record IsAt
     {D : Type 0} (members : disk.Ghosts D) (t : Step EquipmentView Happening) (node : Node OwnView Kind) (out : StepOut)
@@ -217,13 +236,15 @@ pub record HasEndedSpent
   pub notes : out.notes ≡ printed step.notes
   pub keeps : Keeps members spent (standing_in step.next)
 
+-- the recipes are asked before; where the disk failed the oldest message was to be read, or their keeper has failed
 abbrev pub EndsSo :
     {D : Type 0} → disk.Ghosts D → ℕ → Step EquipmentView Happening → Node OwnView Kind → StepOut
     → Result (GemSpool D) (Ended D) → Type 0
-EndsSo members now t node out (Ok g) = HasEnded members now t node out g
-EndsSo members now t node out (Err (ended.NumbersSpent spent)) = HasEndedSpent members now t out spent
+EndsSo members now t node out (Ok g) = HasEnded members now (served_step t) node out g
+EndsSo members now t node out (Err (ended.NumbersSpent spent)) = HasEndedSpent members now (served_step t) out spent
 EndsSo members now t node out (Err (ended.DiskFailed spent)) =
-    (takes_up t.next.node.own ≡ true) × (out.notes ≡ printed t.notes) × Keeps members spent (standing_in t.next)
+    ((takes_up t.next.node.own ≡ true) ⊎ (owes_recipes t.next.node.own.owed ≡ true))
+    × (out.notes ≡ printed t.notes) × Keeps members spent (standing_in t.next)
 EndsSo members now t node out (Err (ended.NoMemory spent)) = Keeps members spent (standing_in t.next)
 
 -- ---- all of it
@@ -244,3 +265,35 @@ Acts members s input now node out (Ok g) = HasActed members s input now node out
 Acts members s input now node out (Err end) =
     (after : StepOut) → after.notes ≡ out.notes → after.line.items ≡ []
     → Steps members s input now node after (Err end)
+
+-- ---- what comes before the last parts
+
+-- a spool in hand, with the oldest message, where it is to be taken up
+abbrev pub Worked : Type 0 → Type 0
+Worked D = GemSpool D × Option (ℕ × Spooled)
+
+abbrev pub disk_worked : {D : Type 0} → Worked D → D
+disk_worked worked = worked.0.spool.disk
+
+-- the step ends so by whatever the recipes and the last parts come to
+-- (what is asked of the recipes stays)
+abbrev pub ReadsSo :
+    {D : Type 0} → disk.Ghosts D → ℕ → Step EquipmentView Happening → Node OwnView Kind → StepOut
+    → Result (Worked D) (Ended D) → Type 0
+ReadsSo {D} members now t node out (Ok worked) =
+    (node.own.owed ≡ t.next.node.own.owed)
+    × ((new : Node OwnView Kind) → (after : StepOut) → (result : Result (GemSpool D) (Ended D))
+    → ServesLast members t.next.recipes worked.0 (done_last worked.1 now) node out new after result
+    → EndsSo members now t new after result)
+ReadsSo members now t node out (Err end) = EndsSo members now t node out (Err end)
+
+-- and all of it is so
+abbrev pub WorksSo :
+    {D : Type 0} → disk.Ghosts D → EquipmentView → Input ToolCommand → ℕ → Node OwnView Kind → StepOut
+    → Result (Worked D) (Ended D) → Type 0
+WorksSo {D} members s input now node out (Ok worked) =
+    (node.own.owed ≡ (step_in (begun_step s input now)).next.node.own.owed)
+    × ((new : Node OwnView Kind) → (after : StepOut) → (result : Result (GemSpool D) (Ended D))
+    → ServesLast members s.recipes worked.0 (done_last worked.1 now) node out new after result
+    → Acts members s input now new after result)
+WorksSo members s input now node out (Err end) = Acts members s input now node out (Err end)

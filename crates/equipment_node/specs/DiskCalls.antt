@@ -10,7 +10,7 @@ use Rattle.equipment_node.specs.Held.{Held}
 use Rattle.equipment_node.specs.Stepping.{IsTold}
 use Rattle.spool_works.specs.DiskCalls.{HasCalled}
 
-abbrev pub disk_held : {D : Type 0} → Held D → D
+abbrev pub disk_held : {D K : Type 0} → Held D K → D
 disk_held h = h.spool.spool.disk
 
 -- the disk's calls in a step are those of its works

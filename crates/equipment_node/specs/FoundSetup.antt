@@ -34,21 +34,21 @@ pub record HasFound {D : Type 0} (members : disk.Ghosts D) (v w : SpoolView D) (
     pub holds : HoldsKept members w
 
 -- it breaks, behind all of its calls; or memory was wanting, or a call failed
-abbrev pub LooksOnly : {D : Type 0} → disk.Ghosts D → D → SpoolFile → Starting D → Type 0
-LooksOnly members old file (starting.NoMemory spent) = HasBegun members old spent.disk (setup_looks file)
-LooksOnly members old file (starting.NotSpool raw break) =
+abbrev pub LooksOnly : {D K : Type 0} → disk.Ghosts D → D → SpoolFile → Starting D K → Type 0
+LooksOnly members old file (starting.NoMemory spent keeper) = HasBegun members old spent.disk (setup_looks file)
+LooksOnly members old file (starting.NotSpool raw break keeper) =
     (setup_break file ≡ Some break) × HasMade members old raw.disk (setup_looks file)
-LooksOnly members old file (starting.DiskFailed spent) = HasFailedIn members old spent.disk (setup_looks file)
-LooksOnly members old file (starting.NumbersSpent spent) = ⊥
+LooksOnly members old file (starting.DiskFailed spent keeper) = HasFailedIn members old spent.disk (setup_looks file)
+LooksOnly members old file (starting.NumbersSpent spent keeper) = ⊥
 
 -- the device that comes back
-abbrev pub device_of : {D : Type 0} → Starting D → D
-device_of (starting.NoMemory spent) = spent.disk
-device_of (starting.NotSpool raw break) = raw.disk
-device_of (starting.DiskFailed spent) = spent.disk
-device_of (starting.NumbersSpent spent) = spent.disk
+abbrev pub device_of : {D K : Type 0} → Starting D K → D
+device_of (starting.NoMemory spent keeper) = spent.disk
+device_of (starting.NotSpool raw break keeper) = raw.disk
+device_of (starting.DiskFailed spent keeper) = spent.disk
+device_of (starting.NumbersSpent spent keeper) = spent.disk
 
-pub record HasNotFound {D : Type 0} (members : disk.Ghosts D) (v : SpoolView D) (why : Starting D) : Type 0 where
+pub record HasNotFound {D K : Type 0} (members : disk.Ghosts D) (v : SpoolView D) (why : Starting D K) : Type 0 where
   pub back : UnstartedBack members v.disk why
   pub told : members.told (device_of why) ≡ members.told v.disk
   pub looks : OfFile members v.disk (λ file. LooksOnly members v.disk file why)
@@ -56,6 +56,6 @@ pub record HasNotFound {D : Type 0} (members : disk.Ghosts D) (v : SpoolView D) 
       EachImage (λ image. StandsFor image (file_in s.now.bytes)) s.now
 
 abbrev pub FindsSetup :
-    {D : Type 0} → disk.Ghosts D → SpoolView D → Result (SpoolView D × Option (List Entry)) (Starting D) → Type 0
+    {D K : Type 0} → disk.Ghosts D → SpoolView D → Result (SpoolView D × Option (List Entry)) (Starting D K) → Type 0
 FindsSetup members v (Ok found) = HasFound members v found.0 found.1
 FindsSetup members v (Err why) = HasNotFound members v why

@@ -20,6 +20,8 @@ use Rattle.message_end.specs.Ends.{room_behind}
 use Rattle.equipment_tables.specs.declared.plan.EquipmentPlan.{EquipmentPlan}
 use Rattle.spool_works.specs.declared.ended.Ended.{Ended}
 use Rattle.spool_works.specs.declared.ended.Ended.TheVariants as ended
+use Rattle.gem_recipes.specs.declared.no_recipes.NoRecipes.{NoRecipes}
+use Rattle.gem_recipes.specs.contracts.no_recipes.NoRecipesRecipeKeeper.TheImpl.{ghosts as no_keepers}
 use Rattle.equipment_node.specs.declared.equipment.Starting.{Starting}
 use Rattle.equipment_node.specs.declared.equipment.Starting.TheVariants as starting
 use Rattle.tool_step.specs.End.{machine, making}
@@ -52,9 +54,9 @@ pub record Holds (v : SpoolView DiskState) : Type 0 where
   pub asked : asked_of v.disk ≡ making (file_in v.disk.story.now.bytes).slots
 
 -- its state; without power, that of a start by its plan
-abbrev pub state_in : disk.Ghosts DiskState → EquipmentPlan → Option (Held DiskState) → EquipmentView
+abbrev pub state_in : disk.Ghosts DiskState → EquipmentPlan → Option (Held DiskState NoRecipes) → EquipmentView
 state_in members plan None = (started_on plan (empty_file 0)).next
-state_in members plan (Some h) = view_in members h
+state_in members plan (Some h) = view_in members no_keepers h
 
 -- ---- where its power may be lost
 
@@ -65,12 +67,12 @@ disk_reach disk = record {
   room = room_behind (record { calls = disk.most; bytes = disk.room }) (asked_of disk);
 }
 
-abbrev pub reach_in : Option (Held DiskState) → ℕ → Reach
+abbrev pub reach_in : Option (Held DiskState NoRecipes) → ℕ → Reach
 reach_in None unmet = record { cut = unmet; room = none_asked }
 reach_in (Some h) unmet = disk_reach h.spool.spool.disk
 
 -- the same equipment, and its disk stops at this call
-abbrev pub with_stop : ℕ → Held DiskState → Held DiskState
+abbrev pub with_stop : ℕ → Held DiskState NoRecipes → Held DiskState NoRecipes
 with_stop call h = record h {
   spool = record h.spool {
     spool = record h.spool.spool {
@@ -85,7 +87,7 @@ file_cut disk choice = file_in (image_of choice disk.story)
 
 -- a start anew by a plan with what a lost disk is left with; where none is lost it finds what stands
 abbrev pub anew_over :
-    disk.Ghosts DiskState → EquipmentPlan → Option (Held DiskState) → Option DiskState → CutChoice → ℕ
+    disk.Ghosts DiskState → EquipmentPlan → Option (Held DiskState NoRecipes) → Option DiskState → CutChoice → ℕ
     → Went EquipmentView Happening
 anew_over members plan going None choice now = restarts (state_in members plan going) now
 anew_over members plan going (Some lost) choice now = starts plan (file_cut lost choice)
@@ -97,17 +99,18 @@ pub record IsLost (lost : DiskState) : Type 0 where
   pub bounded : IsBounded lost
 
 -- it goes on by this plan: no call of its disk is to fail alone
-pub record HasPower (members : disk.Ghosts DiskState) (plan : EquipmentPlan) (h : Held DiskState) : Type 0 where
-  pub in_state : IsIn members h
-  pub fails_not : h.spool.spool.disk.plan.fail_in ≡ 0
-  pub going : h.spool.spool.disk.plan.stopped ≡ false
-  pub bounded : IsBounded h.spool.spool.disk
-  pub fitted : HasFitted h.spool.spool.disk
-  pub plan_is : (node_of h.tool).own.plan ≡ plan
+pub record HasPower (members : disk.Ghosts DiskState) (plan : EquipmentPlan) (h : Held DiskState NoRecipes) : Type 0
+  where
+    pub in_state : IsIn members no_keepers h
+    pub fails_not : h.spool.spool.disk.plan.fail_in ≡ 0
+    pub going : h.spool.spool.disk.plan.stopped ≡ false
+    pub bounded : IsBounded h.spool.spool.disk
+    pub fitted : HasFitted h.spool.spool.disk
+    pub plan_is : (node_of h.tool).own.plan ≡ plan
 
 -- it has power, or a disk that was stopped, or neither, where it has ended otherwise
 abbrev pub IsWhole :
-    disk.Ghosts DiskState → EquipmentPlan → Option (Held DiskState) → Option DiskState → Type 0
+    disk.Ghosts DiskState → EquipmentPlan → Option (Held DiskState NoRecipes) → Option DiskState → Type 0
 IsWhole members plan (Some h) None = HasPower members plan h
 IsWhole members plan (Some h) (Some lost) = ⊥
 IsWhole members plan None None = Unit {0}
@@ -153,7 +156,7 @@ FitsLeft (ended.NoMemory spent) = Unit {0}
 -- ---- a start anew
 
 -- the disk that there is
-abbrev pub disk_of : Option DiskState → Option (Held DiskState) → Option DiskState
+abbrev pub disk_of : Option DiskState → Option (Held DiskState NoRecipes) → Option DiskState
 disk_of (Some lost) going = Some lost
 disk_of None (Some h) = Some h.spool.spool.disk
 disk_of None None = None
@@ -170,17 +173,17 @@ abbrev pub starts_over : EquipmentPlan → DiskState → Went EquipmentView Happ
 starts_over plan disk = starts plan (file_in disk.story.now.bytes)
 
 -- why it doesn't start: where the disk fails, or gives no spool, the list of its calls has no memory for them
-abbrev pub stop_at_start : {D : Type 0} → Starting D → Stop
-stop_at_start (starting.NoMemory spent) = stop.NoMemory
-stop_at_start (starting.NotSpool raw break) = stop.NoMemory
-stop_at_start (starting.DiskFailed spent) = stop.NoMemory
-stop_at_start (starting.NumbersSpent spent) = stop.NumbersSpent
+abbrev pub stop_at_start : {D K : Type 0} → Starting D K → Stop
+stop_at_start (starting.NoMemory spent keeper) = stop.NoMemory
+stop_at_start (starting.NotSpool raw break keeper) = stop.NoMemory
+stop_at_start (starting.DiskFailed spent keeper) = stop.NoMemory
+stop_at_start (starting.NumbersSpent spent keeper) = stop.NumbersSpent
 
 -- it comes to this, and goes on with a disk of which so much was asked as is counted for a start anew; or it has
 -- stopped
 pub record StartsAnew
     (members : disk.Ghosts DiskState) (plan : EquipmentPlan) (went : Went EquipmentView Happening)
-    (going : Option (Held DiskState)) (unmet : ℕ) (out : StepOut) (result : Result (Unit {0}) Stop)
+    (going : Option (Held DiskState NoRecipes)) (unmet : ℕ) (out : StepOut) (result : Result (Unit {0}) Stop)
     : Type 0 where
   pub start : Leaves ([] ∷ []) false went (state_in members plan going) out result
   pub whole : IsNotStopped result

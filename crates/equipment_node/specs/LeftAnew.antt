@@ -6,11 +6,12 @@ use Rattle.disk_base.specs.declared.cut.CutChoice.{CutChoice}
 use Rattle.disk_base.specs.declared.disk.Disk as disk
 use Rattle.equipment_tables.specs.declared.plan.EquipmentPlan.{EquipmentPlan}
 use Rattle.tool_step.specs.Equipment.{restarts}
+use Rattle.gem_recipes.specs.declared.no_recipes.NoRecipes.{NoRecipes}
 use Rattle.equipment_node.specs.Held.{Held}
 use Rattle.equipment_node.specs.InMemory.{anew_over, state_in}
 
 pub settled_over :
-    (members : disk.Ghosts DiskState) (plan : EquipmentPlan) (going : Option (Held DiskState))
+    (members : disk.Ghosts DiskState) (plan : EquipmentPlan) (going : Option (Held DiskState NoRecipes))
     (lost : Option DiskState) → is_some lost ≡ false → (choice : CutChoice) (now : ℕ)
     → anew_over members plan going lost choice now ≡ restarts (state_in members plan going) now
 settled_over members plan going None same choice now = refl

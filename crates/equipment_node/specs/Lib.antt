@@ -6,6 +6,7 @@ pub mod FoundSetup
 pub mod HandedBack
 pub mod Held
 pub mod InMemory
+pub mod Keeping
 pub mod LeftAnew
 pub mod MadeReady
 pub mod SpentSteps
@@ -13,4 +14,5 @@ pub mod StartCalls
 pub mod StartOver
 pub mod StartSetup
 pub mod StartSizes
+pub mod Stepped
 pub mod Stepping

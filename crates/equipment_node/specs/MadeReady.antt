@@ -62,18 +62,18 @@ pub record IsMadeReady {D : Type 0} (members : disk.Ghosts D) (v : SpoolView D) 
   pub sure : KeepsSure members v.disk g.spool.disk
 
 -- memory was wanting, or a call failed, of those of a file
-abbrev pub IsUnready : {D : Type 0} → disk.Ghosts D → D → SpoolFile → Starting D → Type 0
-IsUnready members old file (starting.NoMemory spent) =
+abbrev pub IsUnready : {D K : Type 0} → disk.Ghosts D → D → SpoolFile → Starting D K → Type 0
+IsUnready members old file (starting.NoMemory spent keeper) =
     HasBegun members old spent.disk (ready_calls file)
     × ((t : Story) → members.told spent.disk ≡ Some t → EachImage (IsEither file) t.now)
-IsUnready members old file (starting.DiskFailed spent) =
+IsUnready members old file (starting.DiskFailed spent keeper) =
     HasFailedIn members old spent.disk (ready_calls file)
     × ((t : Story) → members.told spent.disk ≡ Some t → EachImage (IsEither file) t.now)
-IsUnready members old file (starting.NumbersSpent spent) = ⊥
-IsUnready members old file (starting.NotSpool raw break) = ⊥
+IsUnready members old file (starting.NumbersSpent spent keeper) = ⊥
+IsUnready members old file (starting.NotSpool raw break keeper) = ⊥
 
 abbrev pub MakesReady :
-    {D : Type 0} → disk.Ghosts D → SpoolView D → Result (GemSpool D × List ℕ) (Starting D) → Type 0
+    {D K : Type 0} → disk.Ghosts D → SpoolView D → Result (GemSpool D × List ℕ) (Starting D K) → Type 0
 MakesReady members v (Ok r) = IsMadeReady members v r.0 r.1
 MakesReady members v (Err why) =
     UnstartedBack members v.disk why

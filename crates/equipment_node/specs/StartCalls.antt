@@ -46,26 +46,29 @@ start_calls file = taking_calls file ++ reserve_calls file
 
 -- behind some calls those are made that move the mark, unless it can't be moved
 abbrev pub StartMoves :
-    {D : Type 0} → disk.Ghosts D → D → (first moves : List DiskCall) → Result (Held D) (Starting D) → Type 0
+    {D K : Type 0} → disk.Ghosts D → D → (first moves : List DiskCall) → Result (Held D K) (Starting D K) → Type 0
 StartMoves members old first moves (Ok h) = HasMade members old (disk_held h) (first ++ moves)
-StartMoves members old first moves (Err (starting.NoMemory spent)) = HasBegun members old spent.disk (first ++ moves)
-StartMoves members old first moves (Err (starting.NumbersSpent spent)) = HasMade members old spent.disk first
-StartMoves members old first moves (Err (starting.DiskFailed spent)) =
+StartMoves members old first moves (Err (starting.NoMemory spent keeper)) =
+    HasBegun members old spent.disk (first ++ moves)
+StartMoves members old first moves (Err (starting.NumbersSpent spent keeper)) = HasMade members old spent.disk first
+StartMoves members old first moves (Err (starting.DiskFailed spent keeper)) =
     HasFailedIn members old spent.disk (first ++ moves)
-StartMoves members old first moves (Err (starting.NotSpool raw break)) = ⊥
+StartMoves members old first moves (Err (starting.NotSpool raw break keeper)) = ⊥
 
 -- over a spool that was just taken up: behind the looks at its setup, and where that breaks there are no others
-abbrev pub StartAsks : {D : Type 0} → disk.Ghosts D → D → SpoolFile → Result (Held D) (Starting D) → Type 0
+abbrev pub StartAsks : {D K : Type 0} → disk.Ghosts D → D → SpoolFile → Result (Held D K) (Starting D K) → Type 0
 StartAsks members old file (Ok h) =
     StartMoves members old (setup_looks file ++ ready_calls file) (reserve_calls file) (Ok h)
-StartAsks members old file (Err (starting.NoMemory spent)) =
-    StartMoves members old (setup_looks file ++ ready_calls file) (reserve_calls file) (Err (starting.NoMemory spent))
-StartAsks members old file (Err (starting.NumbersSpent spent)) =
+StartAsks members old file (Err (starting.NoMemory spent keeper)) =
     StartMoves members old (setup_looks file ++ ready_calls file) (reserve_calls file)
-    (Err (starting.NumbersSpent spent))
-StartAsks members old file (Err (starting.DiskFailed spent)) =
-    StartMoves members old (setup_looks file ++ ready_calls file) (reserve_calls file) (Err (starting.DiskFailed spent))
-StartAsks members old file (Err (starting.NotSpool raw break)) = HasMade members old raw.disk (setup_looks file)
+    (Err (starting.NoMemory spent keeper))
+StartAsks members old file (Err (starting.NumbersSpent spent keeper)) =
+    StartMoves members old (setup_looks file ++ ready_calls file) (reserve_calls file)
+    (Err (starting.NumbersSpent spent keeper))
+StartAsks members old file (Err (starting.DiskFailed spent keeper)) =
+    StartMoves members old (setup_looks file ++ ready_calls file) (reserve_calls file)
+    (Err (starting.DiskFailed spent keeper))
+StartAsks members old file (Err (starting.NotSpool raw break keeper)) = HasMade members old raw.disk (setup_looks file)
 
 -- ---- from a device
 
@@ -94,11 +97,11 @@ LooksInVain members old new bytes =
     AreLooks (members.calls old) (members.calls new) (most_reads (members.told old) (members.size_is old)))
 
 -- the disk's calls in a start over these bytes are these
-abbrev pub CallsInStart : {D : Type 0} → disk.Ghosts D → D → List ℕ → Result (Held D) (Starting D) → Type 0
+abbrev pub CallsInStart : {D K : Type 0} → disk.Ghosts D → D → List ℕ → Result (Held D K) (Starting D K) → Type 0
 CallsInStart members old bytes (Ok h) = HasMade members old (disk_held h) (start_calls (file_in bytes))
-CallsInStart members old bytes (Err (starting.NoMemory spent)) =
+CallsInStart members old bytes (Err (starting.NoMemory spent keeper)) =
     HasBegun members old spent.disk (start_calls (file_in bytes))
-CallsInStart members old bytes (Err (starting.NumbersSpent spent)) =
+CallsInStart members old bytes (Err (starting.NumbersSpent spent keeper)) =
     HasMade members old spent.disk (taking_calls (file_in bytes))
-CallsInStart members old bytes (Err (starting.NotSpool raw break)) = LooksInVain members old raw.disk bytes
-CallsInStart members old bytes (Err (starting.DiskFailed spent)) = FailsOnTheWay members old spent.disk bytes
+CallsInStart members old bytes (Err (starting.NotSpool raw break keeper)) = LooksInVain members old raw.disk bytes
+CallsInStart members old bytes (Err (starting.DiskFailed spent keeper)) = FailsOnTheWay members old spent.disk bytes

@@ -32,7 +32,7 @@ pub record IsFresh {D : Type 0} (members : disk.Ghosts D) (v : SpoolView D) : Ty
 
 -- it has started over this file
 pub record HasStartedOver
-    {D : Type 0} (members : disk.Ghosts D) (plan : EquipmentPlan) (file : SpoolFile) (h : Held D) (out : StepOut)
+    {D K : Type 0} (members : disk.Ghosts D) (plan : EquipmentPlan) (file : SpoolFile) (h : Held D K) (out : StepOut)
     : Type 0 where
   pub room : is_marked_out file.mark.value ≡ false
   pub node_is : node_of h.tool ≡ (started_on plan file).next.node
@@ -47,26 +47,28 @@ IsLeft members file spent = (t : Story) → members.told spent.disk ≡ Some t �
 
 -- nothing is noted where it doesn't start
 abbrev pub StartsOver :
-    {D : Type 0} → disk.Ghosts D → EquipmentPlan → SpoolFile → StepOut → Result (Held D) (Starting D) → Type 0
+    {D K : Type 0} → disk.Ghosts D → EquipmentPlan → SpoolFile → StepOut → Result (Held D K) (Starting D K) → Type 0
 StartsOver members plan file out (Ok h) = HasStartedOver members plan file h out
-StartsOver members plan file out (Err (starting.NumbersSpent spent)) =
+StartsOver members plan file out (Err (starting.NumbersSpent spent keeper)) =
     IsEmpty out × (is_marked_out file.mark.value ≡ true)
     × ((t : Story) → members.told spent.disk ≡ Some t → EachImage (λ image. StandsFor image (upgraded file)) t.now)
-StartsOver members plan file out (Err (starting.DiskFailed spent)) = IsEmpty out × IsLeft members file spent
-StartsOver members plan file out (Err (starting.NoMemory spent)) = (out.line.items ≡ []) × IsLeft members file spent
-StartsOver members plan file out (Err (starting.NotSpool raw break)) = ⊥
+StartsOver members plan file out (Err (starting.DiskFailed spent keeper)) = IsEmpty out × IsLeft members file spent
+StartsOver members plan file out (Err (starting.NoMemory spent keeper)) =
+    (out.line.items ≡ []) × IsLeft members file spent
+StartsOver members plan file out (Err (starting.NotSpool raw break keeper)) = ⊥
 
 -- the setup is read before, from an old disk, and where that breaks nothing was written
 abbrev pub StartsFrom :
-    {D : Type 0} → disk.Ghosts D → EquipmentPlan → D → SpoolFile → StepOut → Result (Held D) (Starting D) → Type 0
+    {D K : Type 0} → disk.Ghosts D → EquipmentPlan → D → SpoolFile → StepOut → Result (Held D K) (Starting D K)
+    → Type 0
 StartsFrom members plan old file out (Ok h) = (setup_break file ≡ None) × StartsOver members plan file out (Ok h)
-StartsFrom members plan old file out (Err (starting.NumbersSpent spent)) =
-    (setup_break file ≡ None) × StartsOver members plan file out (Err (starting.NumbersSpent spent))
-StartsFrom members plan old file out (Err (starting.DiskFailed spent)) =
-    StartsOver members plan file out (Err (starting.DiskFailed spent))
-StartsFrom members plan old file out (Err (starting.NoMemory spent)) =
-    StartsOver members plan file out (Err (starting.NoMemory spent))
-StartsFrom members plan old file out (Err (starting.NotSpool raw break)) =
+StartsFrom members plan old file out (Err (starting.NumbersSpent spent keeper)) =
+    (setup_break file ≡ None) × StartsOver members plan file out (Err (starting.NumbersSpent spent keeper))
+StartsFrom members plan old file out (Err (starting.DiskFailed spent keeper)) =
+    StartsOver members plan file out (Err (starting.DiskFailed spent keeper))
+StartsFrom members plan old file out (Err (starting.NoMemory spent keeper)) =
+    StartsOver members plan file out (Err (starting.NoMemory spent keeper))
+StartsFrom members plan old file out (Err (starting.NotSpool raw break keeper)) =
     IsEmpty out × (setup_break file ≡ Some break) × (members.told raw.disk ≡ members.told old)
 
 -- no call of a disk is to fail
@@ -81,13 +83,13 @@ KeepsSure members old new = IsSureDisk (members.health old) → IsSureDisk (memb
 
 -- with this setup, these sizes and the system bytes from a base on, unless memory runs out
 abbrev pub StartsWith :
-    {D : Type 0} → EquipmentPlan → GemSpool D → Option (List Entry) → List ℕ → ℕ → StepOut → StepOut
-    → Result (Held D) (Starting D) → Type 0
+    {D K : Type 0} → EquipmentPlan → GemSpool D → Option (List Entry) → List ℕ → ℕ → StepOut → StepOut
+    → Result (Held D K) (Starting D K) → Type 0
 StartsWith plan g setup sizes base out_old out_new (Ok h) =
     (h.spool ≡ g)
     × (node_of h.tool ≡ new_node plan setup (new_ledger g.spool.slots g.spool.first sizes) base)
     × IsStartNoted plan setup (length sizes) base out_old out_new
-StartsWith plan g setup sizes base out_old out_new (Err (starting.NoMemory spent)) = spent.disk ≡ g.spool.disk
-StartsWith plan g setup sizes base out_old out_new (Err (starting.NumbersSpent spent)) = ⊥
-StartsWith plan g setup sizes base out_old out_new (Err (starting.DiskFailed spent)) = ⊥
-StartsWith plan g setup sizes base out_old out_new (Err (starting.NotSpool raw break)) = ⊥
+StartsWith plan g setup sizes base out_old out_new (Err (starting.NoMemory spent keeper)) = spent.disk ≡ g.spool.disk
+StartsWith plan g setup sizes base out_old out_new (Err (starting.NumbersSpent spent keeper)) = ⊥
+StartsWith plan g setup sizes base out_old out_new (Err (starting.DiskFailed spent keeper)) = ⊥
+StartsWith plan g setup sizes base out_old out_new (Err (starting.NotSpool raw break keeper)) = ⊥

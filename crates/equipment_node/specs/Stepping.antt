@@ -30,6 +30,7 @@ use Rattle.tool_step.specs.Equipment.{EquipmentView, act}
 use Rattle.tool_law.specs.Laws.{DidOf}
 use Rattle.tool_step.specs.Left as left
 use Rattle.tool_step.specs.Own.{OwnView}
+use Rattle.tool_step.specs.Recipes.{RecipesView}
 
 -- ---- the spool in hand
 
@@ -95,10 +96,10 @@ abbrev pub file_held : {D : Type 0} → disk.Ghosts D → Option (GemSpool D) �
 file_held members None = empty_file 0
 file_held members (Some g) = (standing_of members g.spool).file
 
--- its state
+-- its state, with these recipes
 abbrev pub view_of :
-    {D : Type 0} → disk.Ghosts D → Node OwnView Kind → Option (GemSpool D) → EquipmentView
-view_of members node spool = record { node = node; file = file_held members spool }
+    {D : Type 0} → disk.Ghosts D → Node OwnView Kind → Option (GemSpool D) → RecipesView → EquipmentView
+view_of members node spool kept = record { node = node; file = file_held members spool; recipes = kept }
 
 -- why it has stopped
 abbrev pub stop_by : {D : Type 0} → Ended D → Stop

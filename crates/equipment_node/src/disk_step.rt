@@ -7,6 +7,8 @@ ghost use Rattle.std.specs.Option.{option_map};
 ghost use Rattle.arrayvec.specs.ArrayVec.{array_vec_len};
 ghost use Rattle.gem_spool.specs.Standing.{Standing, Stands, count_of};
 ghost use Rattle.gem_spool.specs.Works.{AreDue, AreSizedOn};
+ghost use Rattle.message_flow.specs.declared.step.Note.{Note};
+ghost use Rattle.message_flow.specs.declared.step.StepOut.{StepOut as Out};
 ghost use Rattle.trace_log.specs.Log.{Happening};
 ghost use Rattle.trace_log.specs.declared.commands.ToolCommand.{ToolCommand};
 ghost use Rattle.trace_log.specs.Commands.{ToolCommandFits};
@@ -18,25 +20,33 @@ ghost use Rattle.spool_ledger.specs.Ledger.{carried_out};
 ghost use Rattle.spool_ledger.specs.Sizes.{oldest_of};
 ghost use Rattle.spool_ledger.specs.Unloading.{next_number as unload_number};
 ghost use Rattle.equipment_tables.specs.Tables.{most_transmitted};
-ghost use Rattle.equipment_node.specs.Amid.{Acts, Carries, DoesLast, EndsSo, HasOpened, IsAt, IsBegun, IsCounted};
-ghost use Rattle.equipment_node.specs.Amid.{IsReady, IsSendable, Opens, StopsAt, WorksFit, asked_node, opened};
-ghost use Rattle.equipment_node.specs.Amid.{done_last, settled_node, setup_if};
+ghost use Rattle.equipment_node.specs.Amid.{Acts, Carries, DoesLast, HasOpened, IsAt, IsBegun, IsCounted, IsReady};
+ghost use Rattle.equipment_node.specs.Amid.{IsSendable, Opens, ReadsSo, StopsAt, WorksFit, WorksSo, asked_node};
+ghost use Rattle.equipment_node.specs.Amid.{disk_worked, done_last, opened, settled_node, setup_if};
 ghost use Rattle.setup_store.specs.Entries.{has_room};
 ghost use Rattle.setup_store.specs.OnDisk.{HoldsKept};
-ghost use Rattle.equipment_node.specs.Breaking.{BreaksBy};
-ghost use Rattle.tool_step.specs.Disk.{read_works, reserve_works, standing_in, works_behind};
+ghost use Rattle.equipment_node.specs.Breaking.{BreaksBy, Passes};
+ghost use Rattle.tool_step.specs.Disk.{read_works, reserve_works, standing_in, works_behind, works_of};
 ghost use Rattle.spool_works.specs.DiskWorks.DiskWork.{ReadOldest};
 ghost use Rattle.equipment_node.specs.DiskCalls.{CallsInStep};
-ghost use Rattle.spool_works.specs.DiskCalls.{HasCalled, disk_in};
+ghost use Rattle.equipment_node.specs.HandedBack.{WorksHandBack};
+ghost use Rattle.spool_works.specs.DiskCalls.{HasCalled, HasMade, all_disk_calls, disk_in};
 ghost use Rattle.tool_step.specs.Equipment.{EquipmentView, begun_step, needs_numbers};
 ghost use Rattle.spool_works.specs.HandedBack.{HandsBack};
 ghost use Rattle.tool_step.specs.Losses.{losses, losses_of};
-ghost use Rattle.tool_core.specs.Node.{node_of};
+ghost use Rattle.tool_core.specs.Node.{node_of, own_of};
+ghost use Rattle.tool_core.specs.Serving.{IsKept};
+ghost use Rattle.tool_law.proofs.Offers.{IsOffered};
 ghost use Rattle.tool_law.specs.Sound.{CanBeSent};
+ghost use Rattle.tool_step.specs.Recipes.{RecipesView};
+ghost use Rattle.equipment_node.specs.Keeping.{ByDisk, CanBeAsked, HandsBoth, HoldsServed, KeepsOf, LeavesRecipes};
+ghost use Rattle.equipment_node.specs.Keeping.{StaysUnasked};
 ghost use Rattle.equipment_node.specs.Stepping.{IsOn, IsTold, Steps};
 
 use crate::notes_cut::cut_notes;
+use crate::serving::serve_last;
 use disk_base::Disk;
+use gem_recipes::RecipeKeeper;
 use gem_spool::{GemSpool, Kept, Unread, Work};
 use message_end::Stop;
 use message_flow::{NodeInput, StepOut};
@@ -50,10 +60,11 @@ use trace_log::ToolCommand;
 const FEW: u64 = 128;
 
 /// One step. Where it stops nothing is sent.
-pub(crate) fn step_on<D: Disk>(
+pub(crate) fn step_on<D: Disk, K: RecipeKeeper>(
     tool: &mut Tool,
     alloc: Global,
     spool: GemSpool<D>,
+    keeper: &mut K,
     input: NodeInput<'_, ToolCommand>,
     now: u64,
     out: &mut StepOut,
@@ -62,18 +73,32 @@ pub(crate) fn step_on<D: Disk>(
     requires input { MayTake ToolCommandFits (input_of input) }
     requires out { IsEmpty out.old }
     requires ready { IsReady D.Disk spool.spool (node_of tool.old) }
+    requires keeper { CanBeAsked K.RecipeKeeper keeper.old (own_of tool.old.own) }
     ensures ready { IfOk result (λ g. IsReady D.Disk g.spool (node_of tool.new)) }
+    ensures keeper { IfOk result (λ g. CanBeAsked K.RecipeKeeper keeper.new (own_of tool.new.own)) }
     ensures steps { (s : EquipmentView) → node_of tool.old ≡ s.node → IsOn D.Disk spool.spool s
-        → IsTold (D.told spool.spool.disk)
+        → IsTold (D.told spool.spool.disk) → KeepsOf K.RecipeKeeper keeper.old s
         → Steps D.Disk s (input_of input.entry) now (node_of tool.new) out.new result }
+    ensures recipes { (s : EquipmentView) → node_of tool.old ≡ s.node → IsOn D.Disk spool.spool s
+        → IsTold (D.told spool.spool.disk) → IsKept K.RecipeKeeper keeper.old s.recipes
+        → LeavesRecipes K.RecipeKeeper s (input_of input.entry) now keeper.new result }
     ensures calls { (s : EquipmentView) → node_of tool.old ≡ s.node → IsOn D.Disk spool.spool s
-        → CallsInStep D.Disk disk_in spool.spool.disk s (input_of input.entry) now result }
+        → IsTold (D.told spool.spool.disk)
+        → ByDisk K.RecipeKeeper keeper.old keeper.new
+        (HasCalled D.Disk disk_in spool.spool.disk (standing_in s) (works_of s (input_of input.entry) now))
+        (λ disk. HasMade D.Disk spool.spool.disk disk
+        (all_disk_calls (standing_in s) (works_of s (input_of input.entry) now)))
+        result }
     ensures breaks { (s : EquipmentView) → node_of tool.old ≡ s.node → IsOn D.Disk spool.spool s
         → IsTold (D.told spool.spool.disk)
-        → BreaksBy D.Disk disk_in spool.spool.disk (losses s (input_of input.entry) now) out.new.notes result }
-    ensures disk { HandsBack D.Disk spool.spool.disk result }
+        → ByDisk K.RecipeKeeper keeper.old keeper.new
+        (BreaksBy D.Disk disk_in spool.spool.disk (losses s (input_of input.entry) now) out.new.notes)
+        (Passes D.Disk spool.spool.disk (losses s (input_of input.entry) now))
+        result }
+    ensures back { HandsBoth D.Disk disk_in spool.spool.disk K.RecipeKeeper keeper.old keeper.new result }
+    ensures unasked { StaysUnasked K.RecipeKeeper keeper.old keeper.new }
 {
-    match from_reserve(tool, alloc, spool, input, now, out) {
+    match whole_step(tool, alloc, spool, keeper, input, now, out) {
         Ok(spool) => Ok(spool),
         Err(ended) => {
             out.line.clear();
@@ -83,10 +108,11 @@ pub(crate) fn step_on<D: Disk>(
 }
 
 // All of a step.
-fn from_reserve<D: Disk>(
+fn whole_step<D: Disk, K: RecipeKeeper>(
     tool: &mut Tool,
     alloc: Global,
     spool: GemSpool<D>,
+    keeper: &mut K,
     input: NodeInput<'_, ToolCommand>,
     now: u64,
     out: &mut StepOut,
@@ -95,16 +121,63 @@ fn from_reserve<D: Disk>(
     requires input { MayTake ToolCommandFits (input_of input) }
     requires out { IsEmpty out.old }
     requires ready { IsReady D.Disk spool.spool (node_of tool.old) }
+    requires keeper { CanBeAsked K.RecipeKeeper keeper.old (own_of tool.old.own) }
     ensures ready { IfOk result (λ g. IsReady D.Disk g.spool (node_of tool.new)) }
+    ensures keeper { IfOk result (λ g. CanBeAsked K.RecipeKeeper keeper.new (own_of tool.new.own)) }
     ensures acts { (s : EquipmentView) → node_of tool.old ≡ s.node → IsOn D.Disk spool.spool s
-        → IsTold (D.told spool.spool.disk)
+        → IsTold (D.told spool.spool.disk) → KeepsOf K.RecipeKeeper keeper.old s
         → Acts D.Disk s (input_of input.entry) now (node_of tool.new) out.new result }
+    ensures recipes { (s : EquipmentView) → node_of tool.old ≡ s.node → IsOn D.Disk spool.spool s
+        → IsTold (D.told spool.spool.disk) → IsKept K.RecipeKeeper keeper.old s.recipes
+        → LeavesRecipes K.RecipeKeeper s (input_of input.entry) now keeper.new result }
     ensures calls { (s : EquipmentView) → node_of tool.old ≡ s.node → IsOn D.Disk spool.spool s
-        → CallsInStep D.Disk disk_in spool.spool.disk s (input_of input.entry) now result }
+        → IsTold (D.told spool.spool.disk)
+        → ByDisk K.RecipeKeeper keeper.old keeper.new
+        (HasCalled D.Disk disk_in spool.spool.disk (standing_in s) (works_of s (input_of input.entry) now))
+        (λ disk. HasMade D.Disk spool.spool.disk disk
+        (all_disk_calls (standing_in s) (works_of s (input_of input.entry) now)))
+        result }
     ensures breaks { (s : EquipmentView) → node_of tool.old ≡ s.node → IsOn D.Disk spool.spool s
         → IsTold (D.told spool.spool.disk)
-        → BreaksBy D.Disk disk_in spool.spool.disk (losses s (input_of input.entry) now) out.new.notes result }
-    ensures disk { HandsBack D.Disk spool.spool.disk result }
+        → ByDisk K.RecipeKeeper keeper.old keeper.new
+        (BreaksBy D.Disk disk_in spool.spool.disk (losses s (input_of input.entry) now) out.new.notes)
+        (Passes D.Disk spool.spool.disk (losses s (input_of input.entry) now))
+        result }
+    ensures back { HandsBoth D.Disk disk_in spool.spool.disk K.RecipeKeeper keeper.old keeper.new result }
+    ensures unasked { StaysUnasked K.RecipeKeeper keeper.old keeper.new }
+{
+    match step_works(tool, alloc, spool, input, now, out) {
+        Ok((spool, oldest)) => serve_last(tool, alloc, spool, keeper, oldest, now, out),
+        Err(ended) => Err(ended),
+    }
+}
+
+// All that the disk is asked in a step: what comes behind it are the last parts.
+fn step_works<D: Disk>(
+    tool: &mut Tool,
+    alloc: Global,
+    spool: GemSpool<D>,
+    input: NodeInput<'_, ToolCommand>,
+    now: u64,
+    out: &mut StepOut,
+) -> Result<(GemSpool<D>, Option<(u64, Spoolable)>), Ended<D>>
+    requires now { now < 2 ^ 62 }
+    requires input { MayTake ToolCommandFits (input_of input) }
+    requires out { IsEmpty out.old }
+    requires ready { IsReady D.Disk spool.spool (node_of tool.old) }
+    ensures ready { IfOk result (λ worked. IsReady D.Disk worked.0.spool (node_of tool.new)) }
+    ensures offers { IfOk result (λ worked. IsOffered (own_of tool.old.own) (own_of tool.new.own)) }
+    ensures can { IfOk result (λ worked. IsSendable worked.1) }
+    ensures room { IfOk result (λ worked. array_vec_len out.new.line ≤ 514) }
+    ensures acts { (s : EquipmentView) → node_of tool.old ≡ s.node → IsOn D.Disk spool.spool s
+        → IsTold (D.told spool.spool.disk)
+        → WorksSo D.Disk s (input_of input.entry) now (node_of tool.new) out.new result }
+    ensures calls { (s : EquipmentView) → node_of tool.old ≡ s.node → IsOn D.Disk spool.spool s
+        → CallsInStep D.Disk disk_worked spool.spool.disk s (input_of input.entry) now result }
+    ensures breaks { (s : EquipmentView) → node_of tool.old ≡ s.node → IsOn D.Disk spool.spool s
+        → IsTold (D.told spool.spool.disk)
+        → BreaksBy D.Disk disk_worked spool.spool.disk (losses s (input_of input.entry) now) out.new.notes result }
+    ensures disk { WorksHandBack D.Disk spool.spool.disk result }
 {
     match reserve(tool, spool, out) {
         Ok(spool) => from_input(tool, alloc, spool, input, now, out),
@@ -129,6 +202,7 @@ fn reserve<D: Disk>(
         → BreaksBy D.Disk disk_in spool.spool.disk (losses_of s (standing_in s) [] (reserve_works s) [])
         out.new.notes result }
     ensures ready { IfOk result (λ g. IsReady D.Disk g.spool (node_of tool.new)) }
+    ensures own { own_of tool.new.own ≡ own_of tool.old.own }
     ensures notes { out.new.notes ≡ out.old.notes }
     ensures line { out.new.line.items ≡ out.old.line.items }
     ensures disk { HandsBack D.Disk spool.spool.disk result }
@@ -164,6 +238,7 @@ fn reserve_more<D: Disk>(
         → BreaksBy D.Disk disk_in spool.spool.disk (losses_of s (standing_in s) [] (reserve_works s) [])
         out.new.notes result }
     ensures ready { IfOk result (λ g. IsReady D.Disk g.spool (node_of tool.new)) }
+    ensures own { own_of tool.new.own ≡ own_of tool.old.own }
     ensures notes { out.new.notes ≡ out.old.notes }
     ensures line { out.new.line.items ≡ out.old.line.items }
     ensures disk { HandsBack D.Disk spool.spool.disk result }
@@ -178,7 +253,7 @@ fn reserve_more<D: Disk>(
     }
 }
 
-// All of a step that has system bytes enough.
+// The same of a step that has system bytes enough.
 fn from_input<D: Disk>(
     tool: &mut Tool,
     alloc: Global,
@@ -186,61 +261,64 @@ fn from_input<D: Disk>(
     input: NodeInput<'_, ToolCommand>,
     now: u64,
     out: &mut StepOut,
-) -> Result<GemSpool<D>, Ended<D>>
+) -> Result<(GemSpool<D>, Option<(u64, Spoolable)>), Ended<D>>
     requires now { now < 2 ^ 62 }
     requires input { MayTake ToolCommandFits (input_of input) }
     requires out { IsEmpty out.old }
     requires ready { IsReady D.Disk spool.spool (node_of tool.old) }
-    ensures ready { IfOk result (λ g. IsReady D.Disk g.spool (node_of tool.new)) }
+    ensures ready { IfOk result (λ worked. IsReady D.Disk worked.0.spool (node_of tool.new)) }
+    ensures offers { IfOk result (λ worked. IsOffered (own_of tool.old.own) (own_of tool.new.own)) }
+    ensures can { IfOk result (λ worked. IsSendable worked.1) }
+    ensures room { IfOk result (λ worked. array_vec_len out.new.line ≤ 514) }
     ensures acts { (s : EquipmentView) → HasOpened D.Disk s (node_of tool.old) spool
-        → Acts D.Disk s (input_of input.entry) now (node_of tool.new) out.new result }
+        → WorksSo D.Disk s (input_of input.entry) now (node_of tool.new) out.new result }
     ensures calls { (s : EquipmentView) → HasOpened D.Disk s (node_of tool.old) spool
-        → HasCalled D.Disk disk_in spool.spool.disk (standing_in (opened s))
+        → HasCalled D.Disk disk_worked spool.spool.disk (standing_in (opened s))
         (works_behind (begun_step s (input_of input.entry) now))
         result }
     ensures breaks { (s : EquipmentView) → HasOpened D.Disk s (node_of tool.old) spool
-        → BreaksBy D.Disk disk_in spool.spool.disk
+        → BreaksBy D.Disk disk_worked spool.spool.disk
         (losses_of s (standing_in (opened s)) [] (works_behind (begun_step s (input_of input.entry) now))
         (step_in (begun_step s (input_of input.entry) now)).notes)
         out.new.notes result }
-    ensures disk { HandsBack D.Disk spool.spool.disk result }
+    ensures disk { WorksHandBack D.Disk spool.spool.disk result }
 {
     match tool.do_first(alloc, input, now, out) {
-        Ok(()) => from_works(tool, alloc, spool, now, out),
+        Ok(()) => from_works(tool, alloc, spool, out),
         Err(stop) => Err(end_early(tool, alloc, spool, stop, out)),
     }
 }
 
-// The works, and what comes behind them.
+// The works, and what is read behind them.
 fn from_works<D: Disk>(
     tool: &mut Tool,
     alloc: Global,
     spool: GemSpool<D>,
-    now: u64,
     out: &mut StepOut,
-) -> Result<GemSpool<D>, Ended<D>>
-    requires now { now < 2 ^ 62 }
+) -> Result<(GemSpool<D>, Option<(u64, Spoolable)>), Ended<D>>
     requires ready { IsReady D.Disk spool.spool (node_of tool.old) }
-    requires room { array_vec_len out.old.line ≤ 514 }
-    ensures ready { IfOk result (λ g. IsReady D.Disk g.spool (node_of tool.new)) }
-    ensures acts { (s : EquipmentView) → (input : Input ToolCommand)
+    ensures ready { IfOk result (λ worked. IsReady D.Disk worked.0.spool (node_of tool.new)) }
+    ensures offers { IfOk result (λ worked. IsOffered (own_of tool.old.own) (own_of tool.new.own)) }
+    ensures can { IfOk result (λ worked. IsSendable worked.1) }
+    ensures line { out.new.line ≡ out.old.line }
+    ensures acts { (s : EquipmentView) → (input : Input ToolCommand) → (now : ℕ)
         → IsBegun s input now (node_of tool.old) out.old → HasOpened D.Disk s (opened s).node spool
-        → Acts D.Disk s input now (node_of tool.new) out.new result }
-    ensures calls { (s : EquipmentView) → (input : Input ToolCommand)
+        → WorksSo D.Disk s input now (node_of tool.new) out.new result }
+    ensures calls { (s : EquipmentView) → (input : Input ToolCommand) → (now : ℕ)
         → IsBegun s input now (node_of tool.old) out.old → HasOpened D.Disk s (opened s).node spool
-        → HasCalled D.Disk disk_in spool.spool.disk (standing_in (opened s))
+        → HasCalled D.Disk disk_worked spool.spool.disk (standing_in (opened s))
         (works_behind (begun_step s input now))
         result }
-    ensures breaks { (s : EquipmentView) → (input : Input ToolCommand)
+    ensures breaks { (s : EquipmentView) → (input : Input ToolCommand) → (now : ℕ)
         → IsBegun s input now (node_of tool.old) out.old → HasOpened D.Disk s (opened s).node spool
-        → BreaksBy D.Disk disk_in spool.spool.disk
+        → BreaksBy D.Disk disk_worked spool.spool.disk
         (losses_of s (standing_in (opened s)) [] (works_behind (begun_step s input now))
         (step_in (begun_step s input now)).notes)
         out.new.notes result }
-    ensures disk { HandsBack D.Disk spool.spool.disk result }
+    ensures disk { WorksHandBack D.Disk spool.spool.disk result }
 {
     match carry_out(tool, alloc, spool, true, out) {
-        Ok(spool) => from_read(tool, alloc, spool, now, out),
+        Ok(spool) => from_read(tool, alloc, spool),
         Err(ended) => Err(ended),
     }
 }
@@ -347,75 +425,71 @@ fn bytes_to_keep(tool: &Tool, keeps: bool) -> Option<&[u8]>
     tool.to_keep()
 }
 
-// What comes behind the works.
+// The oldest message is read, where it is to be taken up.
 fn from_read<D: Disk>(
     tool: &mut Tool,
     alloc: Global,
     spool: GemSpool<D>,
-    now: u64,
-    out: &mut StepOut,
-) -> Result<GemSpool<D>, Ended<D>>
-    requires now { now < 2 ^ 62 }
-    requires room { array_vec_len out.old.line ≤ 514 }
+) -> Result<(GemSpool<D>, Option<(u64, Spoolable)>), Ended<D>>
     requires ready { IsReady D.Disk spool.spool (node_of tool.old) }
     requires owes { carried_out tool.old.own.ledger ≡ tool.old.own.ledger }
-    ensures ready { IfOk result (λ g. IsReady D.Disk g.spool (node_of tool.new)) }
-    ensures ends { (t : Step EquipmentView Happening) → IsAt D.Disk t (node_of tool.old) out.old spool
-        → EndsSo D.Disk now t (node_of tool.new) out.new result }
-    ensures calls { (t : Step EquipmentView Happening) → IsAt D.Disk t (node_of tool.old) out.old spool
-        → HasCalled D.Disk disk_in spool.spool.disk (standing_in t.next) (read_works (Goes t)) result }
-    ensures breaks { (t : Step EquipmentView Happening) → IsAt D.Disk t (node_of tool.old) out.old spool
-        → (s : EquipmentView) → BreaksBy D.Disk disk_in spool.spool.disk
-        (losses_of s (standing_in t.next) [] (read_works (Goes t)) t.notes) out.new.notes result }
-    ensures disk { HandsBack D.Disk spool.spool.disk result }
+    ensures ready { IfOk result (λ worked. IsReady D.Disk worked.0.spool (node_of tool.new)) }
+    ensures offers { IfOk result (λ worked. IsOffered (own_of tool.old.own) (own_of tool.new.own)) }
+    ensures can { IfOk result (λ worked. IsSendable worked.1) }
+    ensures reads { (t : Step EquipmentView Happening) → (out : Out) → (now : ℕ)
+        → IsAt D.Disk t (node_of tool.old) out spool → ReadsSo D.Disk now t (node_of tool.new) out result }
+    ensures calls { (t : Step EquipmentView Happening) → (out : Out) → IsAt D.Disk t (node_of tool.old) out spool
+        → HasCalled D.Disk disk_worked spool.spool.disk (standing_in t.next) (read_works (Goes t)) result }
+    ensures breaks { (t : Step EquipmentView Happening) → (out : Out) → IsAt D.Disk t (node_of tool.old) out spool
+        → (s : EquipmentView) → BreaksBy D.Disk disk_worked spool.spool.disk
+        (losses_of s (standing_in t.next) [] (read_works (Goes t)) t.notes) out.notes result }
+    ensures disk { WorksHandBack D.Disk spool.spool.disk result }
 {
     match tool.next_unload() {
-        Some(number) => end_reading(tool, alloc, spool, number, now, out),
-        None => end_with(tool, alloc, spool, None, now, out),
+        Some(number) => read_oldest(tool, alloc, spool, number),
+        None => Ok((spool, None)),
     }
 }
 
-// The oldest message is read, slot by slot, which is to be taken up under this number, and goes to the host.
-fn end_reading<D: Disk>(
-    tool: &mut Tool,
+// It is read slot by slot, to be taken up under this number.
+fn read_oldest<D: Disk>(
+    tool: &Tool,
     alloc: Global,
     spool: GemSpool<D>,
     number: u64,
-    now: u64,
-    out: &mut StepOut,
-) -> Result<GemSpool<D>, Ended<D>>
-    requires now { now < 2 ^ 62 }
-    requires room { array_vec_len out.old.line ≤ 514 }
-    requires ready { IsReady D.Disk spool.spool (node_of tool.old) }
-    requires owes { carried_out tool.old.own.ledger ≡ tool.old.own.ledger }
-    ensures ready { IfOk result (λ g. IsReady D.Disk g.spool (node_of tool.new)) }
-    ensures ends { (t : Step EquipmentView Happening) → node_of tool.old ≡ asked_node t.next.node
+) -> Result<(GemSpool<D>, Option<(u64, Spoolable)>), Ended<D>>
+    requires ready { IsReady D.Disk spool.spool (node_of tool.now) }
+    requires owes { carried_out tool.now.own.ledger ≡ tool.now.own.ledger }
+    ensures ready { IfOk result (λ worked. IsReady D.Disk worked.0.spool (node_of tool.now)) }
+    ensures can { IfOk result (λ worked. IsSendable worked.1) }
+    ensures reads { (t : Step EquipmentView Happening) → (out : Out) → (now : ℕ)
+        → node_of tool.now ≡ asked_node t.next.node
         → unload_number (most_transmitted t.next.node.own.tables) t.next.node.own.ledger ≡ Some number
-        → IsAt D.Disk t t.next.node out.old spool
-        → EndsSo D.Disk now t (node_of tool.new) out.new result }
+        → IsAt D.Disk t t.next.node out spool → ReadsSo D.Disk now t (node_of tool.now) out result }
     ensures calls { (st : Standing) → Stands D.Disk spool.spool st → 0 < length st.file.list
-        → HasCalled D.Disk disk_in spool.spool.disk st (ReadOldest (oldest_of tool.old.own.ledger.sizes) ∷ []) result }
+        → HasCalled D.Disk disk_worked spool.spool.disk st (ReadOldest (oldest_of tool.now.own.ledger.sizes) ∷ [])
+        result }
     ensures breaks { (s : EquipmentView) → (st : Standing) → Stands D.Disk spool.spool st → 0 < length st.file.list
-        → IsTold (D.told spool.spool.disk) → (front : List Happening) → out.old.notes ≡ printed front
-        → BreaksBy D.Disk disk_in spool.spool.disk
-        (losses_of s st [] (ReadOldest (oldest_of tool.old.own.ledger.sizes) ∷ []) front) out.new.notes result }
-    ensures disk { HandsBack D.Disk spool.spool.disk result }
+        → IsTold (D.told spool.spool.disk) → (front : List Happening) → (notes : List Note) → notes ≡ printed front
+        → BreaksBy D.Disk disk_worked spool.spool.disk
+        (losses_of s st [] (ReadOldest (oldest_of tool.now.own.ledger.sizes) ∷ []) front) notes result }
+    ensures disk { WorksHandBack D.Disk spool.spool.disk result }
 {
     let mut spool = spool;
     let slots = tool.own.ledger.oldest_size();
     match spool.oldest_message(alloc, slots) {
         Ok(kept) => {
             let report = report_of(kept);
-            end_with(tool, alloc, spool, Some((number, report)), now, out)
+            Ok((spool, Some((number, report))))
         }
-        Err(Unread::Empty) => end_with(tool, alloc, spool, None, now, out),
+        Err(Unread::Empty) => Ok((spool, None)),
         Err(Unread::Failed) => Err(Ended::DiskFailed(spool.retire())),
         Err(Unread::NoMemory) => Err(Ended::NoMemory(spool.retire())),
     }
 }
 
-// The last parts, with what was read.
-fn end_with<D: Disk>(
+/// The last parts, with what was read.
+pub(crate) fn end_with<D: Disk>(
     tool: &mut Tool,
     alloc: Global,
     spool: GemSpool<D>,
@@ -428,6 +502,7 @@ fn end_with<D: Disk>(
     requires ready { IsReady D.Disk spool.spool (node_of tool.old) }
     requires can { IsSendable oldest }
     ensures ready { IfOk result (λ g. IsReady D.Disk g.spool (node_of tool.new)) }
+    ensures offers { IfOk result (λ g. IsOffered (own_of tool.old.own) (own_of tool.new.own)) }
     ensures ends { DoesLast
         D.Disk
         spool

@@ -1,6 +1,6 @@
 //! The equipment over the disk of its spool.
 
-ghost use Rattle.std.specs.Prelude.{◌≡◌, ◌+◌, ◌≤◌, ◌<◌, ◌^◌, [], IfOk, Some};
+ghost use Rattle.std.specs.Prelude.{◌≡◌, ◌+◌, ◌≤◌, ◌<◌, ◌^◌, [], IfOk, Some, true};
 ghost use Rattle.line_end.specs.Step.{is_due};
 ghost use Rattle.disk_base.specs.MemDisk.{HasFitted};
 ghost use Rattle.disk_base.specs.Story.{Story};
@@ -10,10 +10,10 @@ ghost use Rattle.spool_file.specs.File.{file_in};
 ghost use Rattle.trace_log.specs.Commands.{ToolCommandFits};
 ghost use Rattle.message_end.specs.Ends.{IsEmpty, MayTake, input_of};
 ghost use Rattle.equipment_tables.specs.Plan.{EquipmentPlanFits};
-ghost use Rattle.equipment_node.specs.Breaking.{BreaksBy};
-ghost use Rattle.equipment_node.specs.DiskCalls.{CallsInStep, disk_held};
-ghost use Rattle.equipment_node.specs.HandedBack.{StartHandsBack, StepHandsBack};
-ghost use Rattle.equipment_node.specs.Held.{Begins, FindsFile, IsIn, Moves, starting_by, view_in};
+ghost use Rattle.equipment_node.specs.HandedBack.{StartHandsBack};
+ghost use Rattle.equipment_node.specs.Held.{Begins, FindsFile, IsIn, Moves, by_disk, keeper_started, kept_by};
+ghost use Rattle.equipment_node.specs.Held.{starting_by, unstarted_by};
+ghost use Rattle.equipment_node.specs.Stepped.{BothBack, BreaksAfter, CallsAfter, KeeperUnasked, RecipesAfter};
 ghost use Rattle.spool_ledger.specs.Ledger.{new_ledger};
 ghost use Rattle.tool_core.specs.Node.{node_of};
 ghost use Rattle.equipment_node.specs.SpentSteps.{IsSpentByCause, IsStartSpentByCause};
@@ -22,14 +22,15 @@ ghost use Rattle.equipment_node.specs.MadeReady.{MakesReady, UpgradesOnce, ready
 ghost use Rattle.equipment_node.specs.StartCalls.{CallsInStart, StartAsks, StartMoves, reserve_calls};
 ghost use Rattle.equipment_node.specs.StartOver.{IsFresh, KeepsSure, StartsFrom, StartsOver, StartsWith};
 ghost use Rattle.equipment_node.specs.StartSizes.{AreSizes};
-ghost use Rattle.tool_step.specs.Losses.{losses};
 ghost use Rattle.tool_step.specs.Setup.{setup_in};
 ghost use Rattle.tool_step.specs.Step.{deadline_of};
 
 use crate::disk_step::step_on;
+use crate::ended::{Ended, with_keeper};
 use crate::sizes::{Unsized, read_sizes};
 use disk_base::{Disk, MemDisk};
 use equipment_tables::EquipmentPlan;
+use gem_recipes::{NoRecipes, RecipeKeeper};
 use gem_spool::GemSpool;
 use gl_base::{NoMemory, Row};
 use line_end::Phase;
@@ -38,49 +39,51 @@ use setup_store::{Loading, load};
 use spool_file::NotSpool;
 use spool_ledger::Ledger;
 use spool_slots::{Raw, Recovering, Spent, Spool};
-use spool_works::Ended;
 use std::alloc::Global;
 use std::marker::Model;
 use tool_core::{KeptSetup, Tool};
 use trace_log::ToolCommand;
 
-/// The equipment: a GEM tool at its end of the line, with the spool on its disk. All else that it keeps is on the heap,
-/// so that it is cheap to move.
+/// The equipment: a GEM tool at its end of the line, with the spool on its disk, and a keeper of the recipes that a
+/// host is offered, if it is any. All else that it keeps is on the heap, so that it is cheap to move.
 #[derive(Drop)]
-pub struct Equipment<D: Disk> {
+pub struct Equipment<D: Disk, K: RecipeKeeper> {
     tool: Box<Tool>,
     spool: GemSpool<D>,
+    keeper: K,
 }
 
-impl<D: Disk> Model for Equipment<D> {
+impl<D: Disk, K: RecipeKeeper> Model for Equipment<D, K> {
     ghost use Rattle.tool_core.specs.contracts.own.Tool as tool_code;
     ghost use Rattle.equipment_node.specs.Amid.{IsReady};
     ghost use Rattle.equipment_node.specs.Held.{Held, held_code};
-    ghost use Rattle.tool_core.specs.Node.{node_of};
+    ghost use Rattle.equipment_node.specs.Keeping.{CanBeAsked};
+    ghost use Rattle.tool_core.specs.Node.{node_of, own_of};
 
-    ghost Value = { Held D };
+    ghost Value = { Held D K };
 
-    ghost coded = { held_code tool_code.the_row.coded D.code };
+    ghost coded = { held_code tool_code.the_row.coded D.code K.code };
 
-    ghost view = { λ inside. record { tool = inside.tool.value; spool = inside.spool } };
+    ghost view = { λ inside. record { tool = inside.tool.value; spool = inside.spool; keeper = inside.keeper } };
 
-    ghost invariant = { λ inside. IsReady D.Disk inside.spool.spool (node_of inside.tool.value) };
+    ghost invariant = { λ inside. IsReady D.Disk inside.spool.spool (node_of inside.tool.value)
+        × CanBeAsked K.RecipeKeeper inside.keeper (own_of inside.tool.value.own) };
 }
 
-/// Why an equipment didn't start. Its device is handed back.
+/// Why an equipment didn't start. Its device is handed back, and the keeper of its recipes, which wasn't asked.
 #[derive(Debug, Drop)]
-pub enum Starting<D> {
+pub enum Starting<D, K> {
     /// Memory was wanting for its setup, for the sizes of its messages, two bytes each, or for the tool.
-    NoMemory(Spent<D>),
+    NoMemory(Spent<D>, K),
     /// The device's bytes stand for no spool, or its setup is none: the first place at which they break.
-    NotSpool(Raw<D>, NotSpool),
+    NotSpool(Raw<D>, NotSpool, K),
     /// A call of the disk failed.
-    DiskFailed(Spent<D>),
+    DiskFailed(Spent<D>, K),
     /// No system bytes are left.
-    NumbersSpent(Spent<D>),
+    NumbersSpent(Spent<D>, K),
 }
 
-impl<D: Disk> Equipment<D> {
+impl<D: Disk, K: RecipeKeeper> Equipment<D, K> {
     /// A start: the spool is taken up from its device and made one of version 2, system bytes are reserved there, and
     /// the setup that is kept there is carried out, if the file has an area. The plan is copied where it is kept, and
     /// must fit. The disk's calls are a sync, a read of what is in front of the slots, those of the slots, one or two
@@ -88,70 +91,80 @@ impl<D: Disk> Equipment<D> {
     /// and those five that move the mark, up to the first that fails. `NumbersSpent` comes where the mark of
     /// the file can't move on, and nowhere else, and no start goes on there. Whether the disk tells its bytes or not,
     /// it is handed back with its file, and counts a fault where the answer is `DiskFailed` and nowhere else. A disk of
-    /// which no call is to fail stays such.
+    /// which no call is to fail stays such. A host is offered the recipes of the keeper where that offers them; it is
+    /// asked for nothing else, and comes back as it was.
     pub fn start(
         alloc: Global,
         plan: &EquipmentPlan,
         raw: Raw<D>,
+        keeper: K,
         now: u64,
         out: &mut StepOut,
-    ) -> Result<Equipment<D>, Starting<D>>
+    ) -> Result<Equipment<D, K>, Starting<D, K>>
         requires plan { EquipmentPlanFits plan.now }
+        requires keeper { K.offers_is keeper ≡ true → K.sound keeper }
         requires out { IsEmpty out.old }
-        ensures begins { (s : Story) → D.told raw.disk ≡ Some s → Begins D.Disk plan.now s out.new result }
+        ensures begins { (s : Story) → D.told raw.disk ≡ Some s
+            → Begins D.Disk K.RecipeKeeper plan.now s out.new result }
         ensures spent { (s : Story) → D.told raw.disk ≡ Some s → IsStartSpentByCause (file_in s.now.bytes) result }
         ensures calls { (s : Story) → D.told raw.disk ≡ Some s
             → CallsInStart D.Disk raw.disk s.now.bytes result }
         ensures finds { (s : Story) → D.told raw.disk ≡ Some s → FindsFile s result }
         ensures disk { StartHandsBack D.Disk raw.disk result }
         ensures keeps { IfOk result (λ h. KeepsSure D.Disk raw.disk h.spool.spool.disk) }
+        ensures keeper { keeper_started result ≡ keeper }
     {
         let _ = now;
-        match raw.recover() {
-            Ok(spool) => start_over(alloc, plan, spool, out),
-            Err(unknown) => Err(why_not(unknown)),
+        match start_without(alloc, plan, raw, out) {
+            Ok(equipment) => Ok(kept_by(equipment, keeper)),
+            Err(why) => Err(unstarted_by(why, keeper)),
         }
     }
 
     /// One step. On an ending the notes keep what was noted before it, and no character is written. All that the disk
     /// is asked in a step is done before its characters are sent: its calls are those of the works of the step, in
-    /// their order, up to the first that fails, and no others. `NumbersSpent` comes where it needs more system bytes
-    /// and the mark of the file can't move on, or puts a message into a spool whose numbers are at their end, and
-    /// nowhere else; where there is such a cause, the step doesn't go on. The disk is handed back as by a start. Where
-    /// a planned call stops the disk, what is noted and what a crash leaves then is what that call comes to.
+    /// their order, up to the first that fails, and no others. What a host asks of the recipes the keeper is asked
+    /// behind them, and answered behind that; where none are offered it isn't asked. `NumbersSpent` comes where it
+    /// needs more system bytes and the mark of the file can't move on, or puts a message into a spool whose numbers are
+    /// at their end, and nowhere else; where there is such a cause, the step doesn't go on. The disk is handed back as
+    /// by a start, and the keeper with it: where the answer is `DiskFailed` one of them has counted a fault, and the
+    /// other none. Where a planned call stops the disk, what is noted and what a crash leaves then is what that call
+    /// comes to.
     pub fn step(
         self,
         alloc: Global,
         input: NodeInput<'_, ToolCommand>,
         now: u64,
         out: &mut StepOut,
-    ) -> Result<Equipment<D>, Ended<D>>
+    ) -> Result<Equipment<D, K>, Ended<D, K>>
         requires now { now < 2 ^ 62 }
         requires input { MayTake ToolCommandFits (input_of input) }
         requires out { IsEmpty out.old }
-        ensures moves { IsIn D.Disk self → Moves D.Disk self (input_of input.entry) now out.new result }
-        ensures calls { IsIn D.Disk self → CallsInStep
-            D.Disk
-            disk_held
-            self.spool.spool.disk
-            (view_in D.Disk self)
-            (input_of input.entry)
-            now
-            result }
-        ensures spent { IsIn D.Disk self → IsSpentByCause D.Disk self (input_of input.entry) now result }
-        ensures breaks { IsIn D.Disk self → BreaksBy
-            D.Disk
-            disk_held
-            self.spool.spool.disk
-            (losses (view_in D.Disk self) (input_of input.entry) now)
-            out.new.notes
-            result }
-        ensures disk { StepHandsBack D.Disk self.spool.spool.disk result }
+        ensures moves { IsIn D.Disk K.RecipeKeeper self
+            → Moves D.Disk K.RecipeKeeper self (input_of input.entry) now out.new (by_disk result) }
+        ensures recipes { IsIn D.Disk K.RecipeKeeper self → K.offers_is self.keeper ≡ true
+            → RecipesAfter D.Disk K.RecipeKeeper self (input_of input.entry) now result }
+        ensures calls { IsIn D.Disk K.RecipeKeeper self
+            → CallsAfter D.Disk K.RecipeKeeper self (input_of input.entry) now result }
+        ensures spent { IsIn D.Disk K.RecipeKeeper self
+            → IsSpentByCause D.Disk K.RecipeKeeper self (input_of input.entry) now (by_disk result) }
+        ensures breaks { IsIn D.Disk K.RecipeKeeper self
+            → BreaksAfter D.Disk K.RecipeKeeper self (input_of input.entry) now out.new.notes result }
+        ensures back { BothBack D.Disk K.RecipeKeeper self result }
+        ensures unasked { KeeperUnasked K.RecipeKeeper self result }
     {
-        let Equipment { mut tool, spool } = self;
-        match step_on(&mut tool, alloc, spool, input, now, out) {
-            Ok(spool) => Ok(Equipment { tool, spool }),
-            Err(ended) => Err(ended),
+        let Equipment {
+            mut tool,
+            spool,
+            mut keeper,
+        } = self;
+        match step_on(&mut tool, alloc, spool, &mut keeper, input, now, out) {
+            Ok(spool) => Ok(Equipment {
+                tool,
+                spool,
+                keeper,
+            }),
+            Err(ended) => Err(with_keeper(ended, keeper)),
         }
     }
 
@@ -186,15 +199,17 @@ impl<D: Disk> Equipment<D> {
         self.spool.count().slots
     }
 
-    /// Gives the device back as it is.
-    pub fn power_off(self) -> Spent<D>
-        ensures { result.disk ≡ self.spool.spool.disk }
+    /// Gives the device and the keeper back as they are.
+    pub fn power_off(self) -> (Spent<D>, K)
+        ensures disk { result.0.disk ≡ self.spool.spool.disk }
+        ensures keeper { result.1 ≡ self.keeper }
     {
-        self.spool.retire()
+        let Equipment { spool, keeper, .. } = self;
+        (spool.retire(), keeper)
     }
 }
 
-impl Equipment<MemDisk> {
+impl<K: RecipeKeeper> Equipment<MemDisk, K> {
     /// Plans that the disk stops at a call, the next one for 1, and at none for 0.
     pub fn arm(&mut self, call: u32)
         ensures { self.new ≡ record self.old {
@@ -221,13 +236,70 @@ impl Equipment<MemDisk> {
     }
 }
 
+// A start of one that offers no recipes: a keeper is given to it when all else is done.
+fn start_without<D: Disk>(
+    alloc: Global,
+    plan: &EquipmentPlan,
+    raw: Raw<D>,
+    out: &mut StepOut,
+) -> Result<Equipment<D, NoRecipes>, Starting<D, NoRecipes>>
+    requires plan { EquipmentPlanFits plan.now }
+    requires out { IsEmpty out.old }
+    ensures begins { (s : Story) → D.told raw.disk ≡ Some s
+        → Begins D.Disk ⟦<NoRecipes as RecipeKeeper>⟧ plan.now s out.new result }
+    ensures spent { (s : Story) → D.told raw.disk ≡ Some s → IsStartSpentByCause (file_in s.now.bytes) result }
+    ensures calls { (s : Story) → D.told raw.disk ≡ Some s
+        → CallsInStart D.Disk raw.disk s.now.bytes result }
+    ensures finds { (s : Story) → D.told raw.disk ≡ Some s → FindsFile s result }
+    ensures disk { StartHandsBack D.Disk raw.disk result }
+    ensures keeps { IfOk result (λ h. KeepsSure D.Disk raw.disk h.spool.spool.disk) }
+{
+    match raw.recover() {
+        Ok(spool) => start_over(alloc, plan, spool, out),
+        Err(unknown) => Err(why_not(unknown, NoRecipes)),
+    }
+}
+
+// With a keeper, whose recipes a host is offered if it has them for one.
+fn kept_by<D: Disk, K: RecipeKeeper>(
+    equipment: Equipment<D, NoRecipes>,
+    keeper: K,
+) -> Equipment<D, K>
+    requires keeper { K.offers_is keeper ≡ true → K.sound keeper }
+    ensures { result ≡ kept_by K.RecipeKeeper keeper equipment }
+{
+    let Equipment {
+        mut tool,
+        spool,
+        ..
+    } = equipment;
+    tool.own.offers = keeper.offers();
+    Equipment {
+        tool,
+        spool,
+        keeper,
+    }
+}
+
+// The same of one that doesn't start.
+fn unstarted_by<D, K>(why: Starting<D, NoRecipes>, keeper: K) -> Starting<D, K>
+    ensures { result ≡ unstarted_by keeper why }
+{
+    match why {
+        Starting::NoMemory(spent, _) => Starting::NoMemory(spent, keeper),
+        Starting::NotSpool(raw, place, _) => Starting::NotSpool(raw, place, keeper),
+        Starting::DiskFailed(spent, _) => Starting::DiskFailed(spent, keeper),
+        Starting::NumbersSpent(spent, _) => Starting::NumbersSpent(spent, keeper),
+    }
+}
+
 // Why it doesn't start.
-fn why_not<D: Disk>(unknown: Recovering<D>) -> Starting<D>
-    ensures { result ≡ starting_by unknown }
+fn why_not<D: Disk, K>(unknown: Recovering<D>, keeper: K) -> Starting<D, K>
+    ensures { result ≡ starting_by keeper unknown }
 {
     match unknown {
-        Recovering::NotSpool(raw, place) => Starting::NotSpool(raw, place),
-        Recovering::Failed(spent) => Starting::DiskFailed(spent),
+        Recovering::NotSpool(raw, place) => Starting::NotSpool(raw, place, keeper),
+        Recovering::Failed(spent) => Starting::DiskFailed(spent, keeper),
     }
 }
 
@@ -237,7 +309,7 @@ pub(crate) fn start_over<D: Disk>(
     plan: &EquipmentPlan,
     spool: Spool<D>,
     out: &mut StepOut,
-) -> Result<Equipment<D>, Starting<D>>
+) -> Result<Equipment<D, NoRecipes>, Starting<D, NoRecipes>>
     requires plan { EquipmentPlanFits plan.now }
     requires out { IsEmpty out.old }
     ensures starts { IsFresh D.Disk spool
@@ -259,7 +331,7 @@ fn start_found<D: Disk>(
     spool: Spool<D>,
     setup: Option<KeptSetup>,
     out: &mut StepOut,
-) -> Result<Equipment<D>, Starting<D>>
+) -> Result<Equipment<D, NoRecipes>, Starting<D, NoRecipes>>
     requires plan { EquipmentPlanFits plan.now }
     requires out { IsEmpty out.old }
     requires holds { HoldsKept D.Disk spool }
@@ -284,7 +356,7 @@ fn start_found<D: Disk>(
 fn find_setup<D: Disk>(
     alloc: Global,
     spool: Spool<D>,
-) -> Result<(Spool<D>, Option<KeptSetup>), Starting<D>>
+) -> Result<(Spool<D>, Option<KeptSetup>), Starting<D, NoRecipes>>
     ensures { FindsSetup D.Disk spool result }
 {
     // (that it stands as it says is told by the call that counts its messages)
@@ -294,10 +366,10 @@ fn find_setup<D: Disk>(
         Ok(bytes) => Ok((spool, Some(KeptSetup::of(bytes)))),
         Err(Loading::NoArea) => Ok((spool, None)),
         Err(Loading::NotSetup(place)) => {
-            Err(Starting::NotSpool(spool.retire().into_raw(), place))
+            Err(Starting::NotSpool(spool.retire().into_raw(), place, NoRecipes))
         }
-        Err(Loading::Failed) => Err(Starting::DiskFailed(spool.retire())),
-        Err(Loading::NoMemory) => Err(Starting::NoMemory(spool.retire())),
+        Err(Loading::Failed) => Err(Starting::DiskFailed(spool.retire(), NoRecipes)),
+        Err(Loading::NoMemory) => Err(Starting::NoMemory(spool.retire(), NoRecipes)),
     }
 }
 
@@ -305,7 +377,7 @@ fn find_setup<D: Disk>(
 fn make_ready<D: Disk>(
     alloc: Global,
     spool: Spool<D>,
-) -> Result<(GemSpool<D>, Row<u16>), Starting<D>>
+) -> Result<(GemSpool<D>, Row<u16>), Starting<D, NoRecipes>>
     ensures { MakesReady D.Disk spool result }
 {
     // (that it stands as it says is told by the call that counts its messages)
@@ -313,12 +385,12 @@ fn make_ready<D: Disk>(
     let mut spool = spool;
     let sizes = match read_sizes(alloc, &mut spool) {
         Ok(sizes) => sizes,
-        Err(Unsized::Failed) => return Err(Starting::DiskFailed(spool.retire())),
-        Err(Unsized::NoMemory) => return Err(Starting::NoMemory(spool.retire())),
+        Err(Unsized::Failed) => return Err(Starting::DiskFailed(spool.retire(), NoRecipes)),
+        Err(Unsized::NoMemory) => return Err(Starting::NoMemory(spool.retire(), NoRecipes)),
     };
     match upgrade(spool) {
         Ok(spool) => Ok((GemSpool::new(spool), sizes)),
-        Err(spent) => Err(Starting::DiskFailed(spent)),
+        Err(spent) => Err(Starting::DiskFailed(spent, NoRecipes)),
     }
 }
 
@@ -343,7 +415,7 @@ fn start_ready<D: Disk>(
     setup: Option<KeptSetup>,
     sizes: &[u16],
     out: &mut StepOut,
-) -> Result<Equipment<D>, Starting<D>>
+) -> Result<Equipment<D, NoRecipes>, Starting<D, NoRecipes>>
     requires plan { EquipmentPlanFits plan.now }
     requires out { IsEmpty out.old }
     requires version { spool.spool.version ≡ 2 }
@@ -361,9 +433,9 @@ fn start_ready<D: Disk>(
     match spool.reserve() {
         Ok((spool, base)) => match base {
             Some(base) => start_with(alloc, plan, spool, setup, sizes, base, out),
-            None => Err(Starting::NumbersSpent(spool.retire())),
+            None => Err(Starting::NumbersSpent(spool.retire(), NoRecipes)),
         },
-        Err(spent) => Err(Starting::DiskFailed(spent)),
+        Err(spent) => Err(Starting::DiskFailed(spent, NoRecipes)),
     }
 }
 
@@ -376,7 +448,7 @@ fn start_with<D: Disk>(
     sizes: &[u16],
     base: u32,
     out: &mut StepOut,
-) -> Result<Equipment<D>, Starting<D>>
+) -> Result<Equipment<D, NoRecipes>, Starting<D, NoRecipes>>
     requires plan { EquipmentPlanFits plan.now }
     requires numbers { base + 4096 ≤ 2 ^ 32 }
     requires version { spool.spool.version ≡ 2 }
@@ -386,11 +458,15 @@ fn start_with<D: Disk>(
     ensures line { out.new.line ≡ out.old.line }
 {
     let Ok(ledger) = ledger_of(alloc, &spool, sizes) else {
-        return Err(Starting::NoMemory(spool.retire()));
+        return Err(Starting::NoMemory(spool.retire(), NoRecipes));
     };
     match Tool::start_on(alloc, plan, setup, ledger, base, out) {
-        Ok(tool) => Ok(Equipment { tool, spool }),
-        Err(NoMemory) => Err(Starting::NoMemory(spool.retire())),
+        Ok(tool) => Ok(Equipment {
+            tool,
+            spool,
+            keeper: NoRecipes,
+        }),
+        Err(NoMemory) => Err(Starting::NoMemory(spool.retire(), NoRecipes)),
     }
 }
 

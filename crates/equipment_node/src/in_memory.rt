@@ -12,20 +12,21 @@ ghost use Rattle.tool_step.specs.Disk.{stops};
 ghost use Rattle.tool_step.specs.End.{machine as equipment_machine};
 ghost use Rattle.tool_step.specs.Equipment.{act};
 ghost use Rattle.tool_step.specs.Losses.{losses};
-ghost use Rattle.equipment_node.specs.Held.{view_in};
+ghost use Rattle.equipment_node.specs.Held.{of_disk, view_in};
 ghost use Rattle.equipment_node.specs.InMemory.{FitsLeft, HasPower, IsStartable, IsLost, IsStopOf, IsWhole, StartsAnew};
 ghost use Rattle.equipment_node.specs.InMemory.{StopsBy, anew_over, disk_of, disk_reach, lost_by, reach_in};
 ghost use Rattle.equipment_node.specs.InMemory.{starts_over};
 ghost use Rattle.equipment_node.specs.InMemory.{state_in, stop_at_start};
 
+use crate::ended::Ended;
 use crate::equipment::{Equipment, Starting, start_over};
 use disk_base::{CutChoice, Disk, DiskAnswer, MemDisk};
 use equipment_tables::EquipmentPlan;
+use gem_recipes::{NoRecipes, RecipeKeeper};
 use line_end::Phase;
 use message_end::{End, Stop};
 use message_flow::{NodeInput, StepOut};
 use spool_slots::{Raw, Spool};
-use spool_works::Ended;
 use std::alloc::Global;
 use tool_core::Planned;
 use trace_log::ToolCommand;
@@ -40,12 +41,12 @@ pub const LISTED_BYTES: u64 = 64 << 20;
 /// which there is no room.
 pub const LISTED_SPARE: (u32, u32) = (1, 16 << 10);
 
-/// The equipment over a disk in memory, as long as it has power, and what a start anew begins with. One that has
-/// stopped makes no step any more; where a planned call has stopped its disk it may start anew.
+/// The equipment over a disk in memory, which offers no recipes, as long as it has power, and what a start anew begins
+/// with. One that has stopped makes no step any more; where a planned call has stopped its disk it may start anew.
 #[derive(Drop)]
 pub struct EquipmentEnd {
     plan: Planned,
-    going: Option<Equipment<MemDisk>>,
+    going: Option<Equipment<MemDisk, NoRecipes>>,
     // the disk that a planned call has stopped
     lost: Option<MemDisk>,
     // the call that is planned while it has no power, of which nothing comes
@@ -217,7 +218,7 @@ impl End for EquipmentEnd {
 
 impl EquipmentEnd {
     /// The equipment, as long as it has power.
-    pub fn equipment(&self) -> Option<&Equipment<MemDisk>>
+    pub fn equipment(&self) -> Option<&Equipment<MemDisk, NoRecipes>>
         ensures { option_map (λ equipment. equipment.now) result ≡ self.now.going }
     {
         self.going.as_ref()
@@ -227,7 +228,7 @@ impl EquipmentEnd {
     fn step_with(
         &mut self,
         alloc: Global,
-        equipment: Equipment<MemDisk>,
+        equipment: Equipment<MemDisk, NoRecipes>,
         input: NodeInput<'_, ToolCommand>,
         now: u64,
         out: &mut StepOut,
@@ -239,15 +240,15 @@ impl EquipmentEnd {
         requires input { MayTake ToolCommandFits (input_of input) }
         requires out { IsEmpty out.old }
         ensures step { Leaves
-            (stops (view_in ⟦<MemDisk as Disk>⟧ equipment) (input_of input.entry) now)
+            (stops (view_in ⟦<MemDisk as Disk>⟧ ⟦<NoRecipes as RecipeKeeper>⟧ equipment) (input_of input.entry) now)
             false
-            (act (view_in ⟦<MemDisk as Disk>⟧ equipment) (input_of input.entry) now)
+            (act (view_in ⟦<MemDisk as Disk>⟧ ⟦<NoRecipes as RecipeKeeper>⟧ equipment) (input_of input.entry) now)
             (state_in ⟦<MemDisk as Disk>⟧ self.new.plan self.new.going)
             out.new
             result }
         ensures ends { EndsBy
             equipment_machine
-            (losses (view_in ⟦<MemDisk as Disk>⟧ equipment) (input_of input.entry) now)
+            (losses (view_in ⟦<MemDisk as Disk>⟧ ⟦<NoRecipes as RecipeKeeper>⟧ equipment) (input_of input.entry) now)
             (disk_reach equipment.spool.spool.disk)
             (reach_in self.new.going self.new.unmet)
             (is_some self.new.lost)
@@ -319,7 +320,7 @@ impl EquipmentEnd {
             result }
         ensures lost { self.new.lost ≡ self.old.lost }
     {
-        match Equipment::start(alloc, self.plan.get(), Raw::new(disk), now, out) {
+        match Equipment::start(alloc, self.plan.get(), Raw::new(disk), NoRecipes, now, out) {
             Ok(equipment) => {
                 // (asked for nothing but what the list of its disk says)
                 let _ = equipment.stops_in();
@@ -332,13 +333,16 @@ impl EquipmentEnd {
 }
 
 // The disk that there is.
-fn disk_in(lost: Option<MemDisk>, going: Option<Equipment<MemDisk>>) -> Option<MemDisk>
+fn disk_in(lost: Option<MemDisk>, going: Option<Equipment<MemDisk, NoRecipes>>) -> Option<MemDisk>
     ensures { result ≡ disk_of lost going }
 {
     match lost {
         Some(disk) => Some(disk),
         None => match going {
-            Some(equipment) => Some(equipment.power_off().into_disk()),
+            Some(equipment) => {
+                let (spent, _) = equipment.power_off();
+                Some(spent.into_disk())
+            }
             None => None,
         },
     }
@@ -346,21 +350,21 @@ fn disk_in(lost: Option<MemDisk>, going: Option<Equipment<MemDisk>>) -> Option<M
 
 // Its disk, where a planned call has stopped it, and why it stops. A crash leaves one of the images, whatever is
 // chosen.
-fn left_by(ended: Ended<MemDisk>) -> (Option<MemDisk>, Stop)
-    ensures lost { result.0 ≡ lost_by ended }
-    ensures stop { IsStopOf ended result.1 }
-    ensures fitted { FitsLeft ended }
+fn left_by(ended: Ended<MemDisk, NoRecipes>) -> (Option<MemDisk>, Stop)
+    ensures lost { result.0 ≡ lost_by (of_disk ended) }
+    ensures stop { IsStopOf (of_disk ended) result.1 }
+    ensures fitted { FitsLeft (of_disk ended) }
     ensures images { IfSome result.0 (λ lost. (choice : CutChoice) →
         IsImage lost.story.now (image_of choice lost.story)) }
 {
     match ended {
-        Ended::NoMemory(_) => (None, Stop::NoMemory),
-        Ended::NumbersSpent(spent) => {
+        Ended::NoMemory(_, _) => (None, Stop::NoMemory),
+        Ended::NumbersSpent(spent, _) => {
             // (asked for nothing but what its list says)
             let _ = spent.into_disk().stopped();
             (None, Stop::NumbersSpent)
         }
-        Ended::DiskFailed(spent) => {
+        Ended::DiskFailed(spent, _) => {
             let disk = spent.into_disk();
             if disk.stopped() {
                 (Some(disk), Stop::DiskFailed)
@@ -387,13 +391,13 @@ fn stop_at(disk: &MemDisk) -> Stop
 }
 
 // Why it doesn't start.
-fn stop_at_start(why: &Starting<MemDisk>) -> Stop
+fn stop_at_start(why: &Starting<MemDisk, NoRecipes>) -> Stop
     ensures { result ≡ stop_at_start why.now }
 {
     match why {
-        Starting::NumbersSpent(_) => Stop::NumbersSpent,
+        Starting::NumbersSpent(_, _) => Stop::NumbersSpent,
         // (the list of its disk's calls has no memory for them, or for looking at the file)
-        Starting::NoMemory(_) | Starting::NotSpool(_, _) | Starting::DiskFailed(_) =>
+        Starting::NoMemory(_, _) | Starting::NotSpool(_, _, _) | Starting::DiskFailed(_, _) =>
             Stop::NoMemory,
     }
 }

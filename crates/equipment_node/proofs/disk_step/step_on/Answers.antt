@@ -4,8 +4,8 @@ use Rattle.equipment_node.proofs.Making.{next-made}
 use Rattle.equipment_node.proofs.disk_step.step_on.Goals as goal
 
 pub returns-in-Ok-clause-steps : goal.returns-in-Ok-clause-steps
-returns-in-Ok-clause-steps g c s node_is on told =
-    let acted = c.in-Ok.ensures.acts s node_is on told in
+returns-in-Ok-clause-steps g c s node_is on told keeps =
+    let acted = c.in-Ok.ensures.acts s node_is on told keeps in
     record {
       step = acted.step;
       is = acted.is;
@@ -20,9 +20,9 @@ returns-in-Ok-clause-steps g c s node_is on told =
     }
 
 pub returns-in-Err-clause-steps : goal.returns-in-Err-clause-steps
-returns-in-Err-clause-steps g c s node_is on told =
-    c.in-Err.ensures.acts s node_is on told
-    (record { line = c.clear.new.self; notes = c.from_reserve.new.out.notes }) refl
+returns-in-Err-clause-steps g c s node_is on told keeps =
+    c.in-Err.ensures.acts s node_is on told keeps
+    (record { line = c.clear.new.self; notes = c.whole_step.new.out.notes }) refl
     c.clear.ensures
 
 pub returns-in-Ok-clause-calls : goal.returns-in-Ok-clause-calls
@@ -31,14 +31,26 @@ returns-in-Ok-clause-calls g c s node_is on told = c.in-Ok.ensures.calls s node_
 pub returns-in-Err-clause-calls : goal.returns-in-Err-clause-calls
 returns-in-Err-clause-calls g c s node_is on told = c.in-Err.ensures.calls s node_is on told
 
-pub returns-in-Ok-clause-disk : goal.returns-in-Ok-clause-disk
-returns-in-Ok-clause-disk g c = c.in-Ok.ensures.disk
+pub returns-in-Ok-clause-back : goal.returns-in-Ok-clause-back
+returns-in-Ok-clause-back g c = c.in-Ok.ensures.back
 
-pub returns-in-Err-clause-disk : goal.returns-in-Err-clause-disk
-returns-in-Err-clause-disk g c = c.in-Err.ensures.disk
+pub returns-in-Err-clause-back : goal.returns-in-Err-clause-back
+returns-in-Err-clause-back g c = c.in-Err.ensures.back
 
 pub returns-in-Ok-clause-breaks : goal.returns-in-Ok-clause-breaks
 returns-in-Ok-clause-breaks g c s node_is on told = c.in-Ok.ensures.breaks s node_is on told
 
 pub returns-in-Err-clause-breaks : goal.returns-in-Err-clause-breaks
 returns-in-Err-clause-breaks g c s node_is on told = c.in-Err.ensures.breaks s node_is on told
+
+pub returns-in-Ok-clause-recipes : goal.returns-in-Ok-clause-recipes
+returns-in-Ok-clause-recipes g c = c.in-Ok.ensures.recipes
+
+pub returns-in-Ok-clause-unasked : goal.returns-in-Ok-clause-unasked
+returns-in-Ok-clause-unasked g c = c.in-Ok.ensures.unasked
+
+pub returns-in-Err-clause-recipes : goal.returns-in-Err-clause-recipes
+returns-in-Err-clause-recipes g c = c.in-Err.ensures.recipes
+
+pub returns-in-Err-clause-unasked : goal.returns-in-Err-clause-unasked
+returns-in-Err-clause-unasked g c = c.in-Err.ensures.unasked

@@ -3,6 +3,7 @@ use Rattle.std.specs.Prelude.{Err}
 use Rattle.disk_base.specs.MemDisk.{DiskState}
 use Rattle.disk_base.specs.contracts.mem_disk.MemDiskDisk.TheImpl.{ghosts}
 use Rattle.equipment_tables.specs.declared.plan.EquipmentPlan.{EquipmentPlan}
+use Rattle.gem_recipes.specs.contracts.no_recipes.NoRecipesRecipeKeeper.TheImpl.{ghosts as no_keepers}
 use Rattle.equipment_node.specs.Held.{Begins, HasBegunOn}
 use Rattle.equipment_node.specs.StartCalls.{start_calls}
 use Rattle.equipment_node.specs.StartOver.{KeepsSure}
@@ -18,7 +19,7 @@ returns-in-Ok-clause-anew c is =
     let told = ap (λ (d : DiskState). Some d.story) c.new.ensures in
     anew-on plan disk is c.start.new.out c.in-Ok.equipment c.args.self.now.unmet
     (subst
-    (λ (p : EquipmentPlan). HasBegunOn ghosts p disk.story.now.bytes c.start.new.out c.in-Ok.equipment)
+    (λ (p : EquipmentPlan). HasBegunOn ghosts no_keepers p disk.story.now.bytes c.start.new.out c.in-Ok.equipment)
     c.get.ensures.value (c.in-Ok.ensures.begins disk.story told))
     (subst
     (λ (d : DiskState).
@@ -34,7 +35,8 @@ returns-in-Err-clause-anew c is =
     let disk = c.args.disk in
     let told = ap (λ (d : DiskState). Some d.story) c.new.ensures in
     anew-off c.args.self.now.plan disk is c.start.new.out c.in-Err.why
-    (subst (λ (p : EquipmentPlan). Begins ghosts p disk.story c.start.new.out (Err c.in-Err.why)) c.get.ensures.value
+    (subst (λ (p : EquipmentPlan). Begins ghosts no_keepers p disk.story c.start.new.out (Err c.in-Err.why))
+    c.get.ensures.value
     (c.in-Err.ensures.begins disk.story told))
     c.args.self.now.going c.requires.gone c.stop_at_start.result c.stop_at_start.ensures
     c.args.self.now.unmet

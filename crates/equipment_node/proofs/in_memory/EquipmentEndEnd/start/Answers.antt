@@ -16,6 +16,7 @@ use Rattle.equipment_node.specs.StartOver.{IsFresh}
 use Rattle.equipment_node.specs.StartSetup.{setup_looks}
 use Rattle.equipment_node.proofs.FromDisk.{bounded-by, first-reach, seated-power, start-file-is}
 use Rattle.equipment_node.proofs.Seated.{start-gone, start-in, start-whole, started-ends}
+use Rattle.equipment_node.proofs.StartOffering.{offers-none}
 use Rattle.equipment_node.proofs.in_memory.EquipmentEndEnd.start.Goals as goal
 
 pub returns-in-Ok-start_over-clause-start : goal.returns-in-Ok-start_over-clause-start
@@ -33,7 +34,8 @@ returns-in-Ok-start_over-clause-reach c =
     let fresh : IsFresh ghosts store = record { told = (store.disk.story, refl); first = c.requires.store.first } in
     let started = (c.in-Ok-start_over.ensures.starts fresh).1 in
     first-reach h
-    (start-in ghosts c.args.plan.now c.requires.plan file h c.start_over.new.out started c.requires.store.can)
+    (start-in ghosts c.args.plan.now c.requires.plan file h c.start_over.new.out started c.requires.store.can
+    (offers-none h.keeper))
     (c.in-Ok-start_over.ensures.keeps c.requires.store.sure) store.disk file c.requires.store.version
     (c.in-Ok-start_over.ensures.calls fresh) c.requires.store.bounded c.requires.store.asked
     (start-file-is c.args.plan.now file h c.start_over.new.out started)
@@ -46,7 +48,8 @@ returns-in-Ok-start_over-clause-sound c =
     let fresh : IsFresh ghosts store = record { told = (store.disk.story, refl); first = c.requires.store.first } in
     let started = (c.in-Ok-start_over.ensures.starts fresh).1 in
     seated-power h
-    (start-in ghosts c.args.plan.now c.requires.plan file h c.start_over.new.out started c.requires.store.can)
+    (start-in ghosts c.args.plan.now c.requires.plan file h c.start_over.new.out started c.requires.store.can
+    (offers-none h.keeper))
     (c.in-Ok-start_over.ensures.keeps c.requires.store.sure) c.of.result
     (bounded-by store.disk h.spool.spool.disk ((setup_looks file ++ ready_calls file) ++ reserve_calls file)
     (c.in-Ok-start_over.ensures.calls fresh) c.requires.store.bounded)
