@@ -1,5 +1,5 @@
 -- The equipment as it is run over a link, and what came of it.
-use Rattle.std.proofs.Common.{◌≡◌, refl, sym, ap, subst, ◌∙◌, inl, Bool, false, ℕ, List, Option, Some, None, Result, Ok, Err, arith}
+use Rattle.std.proofs.Common.{◌≡◌, refl, sym, ap, subst, ◌∙◌, inl, inr, Bool, false, ℕ, List, Option, Some, None, Result, Ok, Err, arith}
 use Rattle.std.specs.Prelude.{is_some}
 use Rattle.disk_base.specs.SameDisk.{IsSameDisk}
 use Rattle.disk_base.specs.Story.{Story}
@@ -27,7 +27,11 @@ use Rattle.tool_step.specs.Disk.{stops}
 use Rattle.tool_step.specs.Equipment.{EquipmentView, act}
 use Rattle.spool_works.specs.HandedBack.{HasFailed, IsEnded, IsKept}
 use Rattle.equipment_node.specs.HandedBack.{StartHandsBack}
-use Rattle.equipment_node.specs.Held.{Begins, FindsFile, Held, view_in}
+use Rattle.gem_recipes.specs.declared.no_recipes.NoRecipes.{NoRecipes}
+use Rattle.gem_recipes.specs.contracts.no_recipes.NoRecipesRecipeKeeper.TheImpl.{ghosts as keepers}
+use Rattle.gl_base.specs.Faults.{Rose}
+use Rattle.equipment_node.specs.Held.{Begins, FindsFile, Held}
+use Rattle.equipment_node.specs.Keeping.{HandsBoth}
 use Rattle.tool_step.specs.Own.{OwnView}
 use Rattle.equipment_node.specs.Stepping.{HasLeft, Steps, stop_by}
 use Rattle.equipment_node.proofs.Seated.{stops-by}
@@ -42,7 +46,7 @@ use Rattle.gemline_app.specs.Equipment.{HoldsLeft, RunsFrom, StartRefuses, equip
 use Rattle.gemline_app.specs.Filed.{bytes_told}
 use Rattle.gemline_app.specs.LinkTold.{LinkTold}
 use Rattle.gemline_app.specs.Linked.{after_run, before_run}
-use Rattle.gemline_app.specs.LinkedEquipment.{Fixed, HoldsOne, IsGoing, IsKnown, IsLeftSo, LeavesDevice, device_by, device_of, disk_in, linked_view, outcome_of_start, spent_by, unstarted_disk}
+use Rattle.gemline_app.specs.LinkedEquipment.{Fixed, HoldsOne, IsGoing, IsKnown, IsLeftSo, LeavesDevice, device_by, device_of, disk_in, linked_view, outcome_of_start, spent_by, tool_view, unstarted_disk}
 use Rattle.gemline_app.specs.declared.outcome.Outcome.{Outcome}
 use Rattle.gemline_app.proofs.SpoolDue.{rose_of}
 use Rattle.gemline_app.proofs.StartBreaks.{breaks-there}
@@ -60,6 +64,9 @@ some_same : {A : Type 0} (a b : A) → Some a ≡ Some b → a ≡ b
 some_same a b same = cc
 
 module _ {D : Type 0} (members : disk.Ghosts D) where
+  abbrev Tool : Type 0
+  Tool = Held D NoRecipes
+
   -- ---- its disk
 
   abbrev made : ℕ → ℕ → Option (List ℕ) → Bool → Device Fixed
@@ -89,6 +96,18 @@ module _ {D : Type 0} (members : disk.Ghosts D) where
   ended_device old (ended.DiskFailed spent) failed = failed_device old spent.disk failed
   ended_device old (ended.NumbersSpent spent) kept = kept_device old spent.disk kept
 
+  -- where it offers no recipes, its disk alone can fail
+  none_rose : Rose 0 0 → ⊥
+  none_rose rose = omega (arith, rose.by_one)
+
+  pub by_disk_alone :
+      {R : Type 0} (disk_of : R → D) (old : D) (before after : NoRecipes) (end : Ended D)
+      → HandsBoth members disk_of old keepers before after (Err end) → IsEnded members old end
+  by_disk_alone disk_of old before after (ended.NoMemory spent) back = back.0
+  by_disk_alone disk_of old before after (ended.NumbersSpent spent) back = back.0
+  by_disk_alone disk_of old before after (ended.DiskFailed spent) (inl failed) = failed.0
+  by_disk_alone disk_of old before after (ended.DiskFailed spent) (inr kept) = absurd (none_rose kept.1.cause)
+
   -- ---- a step that has stopped it
 
   module _ (end : Ended D) (why : Stop) (why_is : why ≡ stop_by end) where
@@ -117,14 +136,14 @@ module _ {D : Type 0} (members : disk.Ghosts D) where
           (subst (λ (o : Option (Spent D)). IsLeftSo members s input now out (stop_by end) o) (sym spent_is)
           (ended_left s input now node out end steps))
 
-      module _ (going : Option (Held D)) (going_is : going ≡ None) where
+      module _ (going : Option (Tool)) (going_is : going ≡ None) where
         pub stopped_device : (old : D) → IsEnded members old end
             → StepCounts (device_of members old) (device_by members (disk_in going spent)) (Err why)
         stopped_device old is =
             subst (λ (w : Stop). StepCounts (device_of members old) (device_by members (disk_in going spent)) (Err w))
             (sym why_is)
             (subst
-            (λ (g : Option (Held D)).
+            (λ (g : Option (Tool)).
             StepCounts (device_of members old) (device_by members (disk_in g spent)) (Err (stop_by end)))
             (sym going_is)
             (subst
@@ -134,41 +153,41 @@ module _ {D : Type 0} (members : disk.Ghosts D) where
 
         pub stopped_holds : HoldsOne going spent
         stopped_holds =
-            subst (λ (g : Option (Held D)). HoldsOne g spent) (sym going_is)
+            subst (λ (g : Option (Tool)). HoldsOne g spent) (sym going_is)
             (subst (λ (o : Option (Spent D)). HoldsOne {D = D} None o) (sym spent_is) tt)
 
   -- ---- one that goes on
 
   pub under :
-      (going : Option (Held D)) (h : Held D) (P : Option (Held D) → Type 0) → going ≡ Some h
+      (going : Option (Tool)) (h : Tool) (P : Option (Tool) → Type 0) → going ≡ Some h
       → (IsGoing members (Some h) → P (Some h)) → IsGoing members going → P going
-  under going h P is over known = subst P (sym is) (over (subst (λ (o : Option (Held D)). IsGoing members o) is known))
+  under going h P is over known = subst P (sym is) (over (subst (λ (o : Option (Tool)). IsGoing members o) is known))
 
-  pub not_going : {A : Type 0} (going : Option (Held D)) → going ≡ None → IsGoing members going → A
-  not_going going is known = absurd (subst (λ (o : Option (Held D)). IsGoing members o) is known)
+  pub not_going : {A : Type 0} (going : Option (Tool)) → going ≡ None → IsGoing members going → A
+  not_going going is known = absurd (subst (λ (o : Option (Tool)). IsGoing members o) is known)
 
-  pub alone : (going : Option (Held D)) (h : Held D) (spent : Option (Spent D)) → going ≡ Some h → HoldsOne going spent
+  pub alone : (going : Option (Tool)) (h : Tool) (spent : Option (Spent D)) → going ≡ Some h → HoldsOne going spent
       → spent ≡ None
-  alone going h spent is holds = go spent (subst (λ (o : Option (Held D)). HoldsOne o spent) is holds)
+  alone going h spent is holds = go spent (subst (λ (o : Option (Tool)). HoldsOne o spent) is holds)
     where
       go : (left : Option (Spent D)) → HoldsOne (Some h) left → left ≡ None
       go None one = refl
       go (Some found) one = absurd one
 
-  pub none_going : (going : Option (Held D)) (spent : Option (Spent D)) → going ≡ None → HoldsOne going spent
+  pub none_going : (going : Option (Tool)) (spent : Option (Spent D)) → going ≡ None → HoldsOne going spent
       → HoldsOne {D = D} None spent
-  none_going going spent is holds = subst (λ (o : Option (Held D)). HoldsOne o spent) is holds
+  none_going going spent is holds = subst (λ (o : Option (Tool)). HoldsOne o spent) is holds
 
   -- ---- what is left behind a run
 
-  abbrev linked : Option (Held D) → Option (Spent D) → LinkedEquipment D
+  abbrev linked : Option (Tool) → Option (Spent D) → LinkedEquipment D
   linked going spent = record { going = going; spent = spent }
 
-  held_left : (h : Held D) (d : D) → h.spool.spool.disk ≡ d → IsGoing members (Some h)
-      → HoldsLeft (view_in members h) None (members.told d)
+  held_left : (h : Tool) (d : D) → h.spool.spool.disk ≡ d → IsGoing members (Some h)
+      → HoldsLeft (tool_view members h) None (members.told d)
   held_left h d is known t told image image_is =
       let file = known.on.clear.stands.file t (ap (λ (x : D). members.told x) is ∙ told) in
-      subst (λ (bytes : List ℕ). StandsFor bytes (view_in members h).file)
+      subst (λ (bytes : List ℕ). StandsFor bytes (tool_view members h).file)
       (sym (only_now t.now image file.settled image_is)) file.stands
 
   spent_left : (left : EquipmentView) (halt : StopAt EquipmentView ToolCommand) (spent : Spent D) (d : D)
@@ -178,7 +197,7 @@ module _ {D : Type 0} (members : disk.Ghosts D) where
   spent_left left halt spent d is has t told = has t (ap (λ (x : D). members.told x) is ∙ told)
 
   pub holds_left :
-      (going : Option (Held D)) (spent : Option (Spent D)) (d : D) → HoldsOne going spent
+      (going : Option (Tool)) (spent : Option (Spent D)) (d : D) → HoldsOne going spent
       → disk_in going spent ≡ Some d → (halt : Option (StopAt EquipmentView ToolCommand))
       → IsSo (IsKnown members) (LeavesDevice members) (linked going spent) halt
       → HoldsLeft (linked_view members going) halt (members.told d)
@@ -192,11 +211,11 @@ module _ {D : Type 0} (members : disk.Ghosts D) where
 
   -- the run of one that goes on
   pub runs_from :
-      (h : Held D) (start : Step EquipmentView Happening) → start.next ≡ view_in members h
-      → (lines : List ScriptLine) (polls : ℕ) (going : Option (Held D)) (spent : Option (Spent D)) (d : D)
+      (h : Tool) (start : Step EquipmentView Happening) → start.next ≡ tool_view members h
+      → (lines : List ScriptLine) (polls : ℕ) (going : Option (Tool)) (spent : Option (Spent D)) (d : D)
       → HoldsOne going spent → disk_in going spent ≡ Some d → (link : LinkTold) (out : SinkTold) (how : Ending)
       → ComesOver (IsKnown members) (LeavesDevice members) (linked going spent)
-      (before_run link out (view_in members h))
+      (before_run link out (tool_view members h))
       (λ halt. after_run link out (linked_view members going) none_asked halt)
       (equipment_run start lines polls) how
       → RunsFrom start lines polls (members.told d) link out how
@@ -214,21 +233,21 @@ module _ {D : Type 0} (members : disk.Ghosts D) where
   -- ---- a start that is refused
 
   pub start_refuses :
-      (plan : EquipmentPlan) (old : D) (out : StepOut) (why : Starting D)
-      → ((s : Story) → members.told old ≡ Some s → Begins members plan s out (Err why))
+      (plan : EquipmentPlan) (old : D) (out : StepOut) (why : Starting D NoRecipes)
+      → ((s : Story) → members.told old ≡ Some s → Begins members keepers plan s out (Err why))
       → ((s : Story) → members.told old ≡ Some s → FindsFile s (Err why)) → StartHandsBack members old (Err why)
       → StartRefuses (bytes_told (disk_told members old (unstarted_disk why))) (outcome_of_start why)
-  start_refuses plan old out (starting.NotSpool raw place) begins finds back =
+  start_refuses plan old out (starting.NotSpool raw place keeper) begins finds back =
       (back.count, λ s told. (breaks-there s.now.bytes place (begins s told).1, (begins s told).2))
-  start_refuses plan old out (starting.NumbersSpent spent) begins finds back =
+  start_refuses plan old out (starting.NumbersSpent spent keeper) begins finds back =
       (back.count, λ s told. (finds s told, (begins s told).1, (begins s told).2))
-  start_refuses plan old out (starting.DiskFailed spent) begins finds back =
+  start_refuses plan old out (starting.DiskFailed spent keeper) begins finds back =
       (back.rose, λ s told. (begins s told).1)
-  start_refuses plan old out (starting.NoMemory spent) begins finds back =
+  start_refuses plan old out (starting.NoMemory spent keeper) begins finds back =
       (back.count, λ s told. (finds s told, (begins s told).1))
 
   pub refused_as :
-      (old : D) (why : Starting D) (outcome : Outcome) (d : D) → outcome ≡ outcome_of_start why
+      (old : D) (why : Starting D NoRecipes) (outcome : Outcome) (d : D) → outcome ≡ outcome_of_start why
       → d ≡ unstarted_disk why
       → StartRefuses (bytes_told (disk_told members old (unstarted_disk why))) (outcome_of_start why)
       → StartRefuses (bytes_told (disk_told members old d)) outcome
@@ -236,14 +255,14 @@ module _ {D : Type 0} (members : disk.Ghosts D) where
       subst (λ (o : Outcome). StartRefuses (bytes_told (disk_told members old d)) o) (sym is)
       (subst (λ (x : D). StartRefuses (bytes_told (disk_told members old x)) (outcome_of_start why)) (sym same) refuses)
 
-  start_same : (old : D) (why : Starting D) → StartHandsBack members old (Err why)
+  start_same : (old : D) (why : Starting D NoRecipes) → StartHandsBack members old (Err why)
       → IsSameDisk members old (unstarted_disk why)
-  start_same old (starting.NotSpool raw place) back = back.same_disk
-  start_same old (starting.NumbersSpent spent) back = back.same_disk
-  start_same old (starting.DiskFailed spent) back = back.same_disk
-  start_same old (starting.NoMemory spent) back = back.same_disk
+  start_same old (starting.NotSpool raw place keeper) back = back.same_disk
+  start_same old (starting.NumbersSpent spent keeper) back = back.same_disk
+  start_same old (starting.DiskFailed spent keeper) back = back.same_disk
+  start_same old (starting.NoMemory spent keeper) back = back.same_disk
 
-  pub refused_same : (old : D) (why : Starting D) (d : D) → d ≡ unstarted_disk why
+  pub refused_same : (old : D) (why : Starting D NoRecipes) (d : D) → d ≡ unstarted_disk why
       → StartHandsBack members old (Err why) → IsSameDisk members old d
   refused_same old why d same back =
       subst (λ (x : D). IsSameDisk members old x) (sym same) (start_same old why back)

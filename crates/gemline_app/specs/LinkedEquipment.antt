@@ -12,6 +12,8 @@ use Rattle.spool_works.specs.declared.ended.Ended.TheVariants as ended
 use Rattle.equipment_node.specs.declared.equipment.Starting.{Starting}
 use Rattle.equipment_node.specs.declared.equipment.Starting.TheVariants as starting
 use Rattle.tool_step.specs.Equipment.{EquipmentView, started_on}
+use Rattle.gem_recipes.specs.declared.no_recipes.NoRecipes.{NoRecipes}
+use Rattle.gem_recipes.specs.contracts.no_recipes.NoRecipesRecipeKeeper.TheImpl.{ghosts as keepers}
 use Rattle.equipment_node.specs.Held.{Held, IsIn, view_in}
 use Rattle.equipment_node.specs.Stepping.{HasLeft}
 use Rattle.tool_step.specs.WorkedSpool.{plan_with}
@@ -24,17 +26,24 @@ use Rattle.gemline_app.specs.declared.outcome.Outcome.TheVariants.{DiskFailed, N
 unfoldable pub nowhere : EquipmentView
 nowhere = (started_on (plan_with 0 0) (empty_file 0)).next
 
-abbrev pub linked_view : {D : Type 0} → disk.Ghosts D → Option (Held D) → EquipmentView
-linked_view members None = nowhere
-linked_view members (Some h) = view_in members h
+-- of one that offers a host no recipes: its state, and that it is known where its disk tells its bytes
+abbrev pub tool_view : {D : Type 0} → disk.Ghosts D → Held D NoRecipes → EquipmentView
+tool_view members h = view_in members keepers h
 
--- one that goes on is known where its disk tells its bytes
-abbrev pub IsGoing : {D : Type 0} → disk.Ghosts D → Option (Held D) → Type 0
+abbrev pub IsTool : {D : Type 0} → disk.Ghosts D → Held D NoRecipes → Type 0
+IsTool members h = IsIn members keepers h
+
+abbrev pub linked_view : {D : Type 0} → disk.Ghosts D → Option (Held D NoRecipes) → EquipmentView
+linked_view members None = nowhere
+linked_view members (Some h) = tool_view members h
+
+-- one that goes on is known
+abbrev pub IsGoing : {D : Type 0} → disk.Ghosts D → Option (Held D NoRecipes) → Type 0
 IsGoing members None = ⊥
-IsGoing members (Some h) = IsIn members h
+IsGoing members (Some h) = IsTool members h
 
 -- it goes on, or its device is left
-abbrev pub HoldsOne : {D : Type 0} → Option (Held D) → Option (Spent D) → Type 0
+abbrev pub HoldsOne : {D : Type 0} → Option (Held D NoRecipes) → Option (Spent D) → Type 0
 HoldsOne None None = ⊥
 HoldsOne None (Some spent) = Unit {0}
 HoldsOne (Some h) None = Unit {0}
@@ -55,7 +64,7 @@ abbrev pub LeavesDevice :
 LeavesDevice members s input now out why linked = IsLeftSo members s input now out why linked.spent
 
 -- the device that it has, or that is left
-abbrev pub disk_in : {D : Type 0} → Option (Held D) → Option (Spent D) → Option D
+abbrev pub disk_in : {D : Type 0} → Option (Held D NoRecipes) → Option (Spent D) → Option D
 disk_in None None = None
 disk_in None (Some spent) = Some spent.disk
 disk_in (Some h) spent = Some h.spool.spool.disk
@@ -81,15 +90,15 @@ spent_by (ended.NoMemory spent) = spent
 spent_by (ended.DiskFailed spent) = spent
 spent_by (ended.NumbersSpent spent) = spent
 
-abbrev pub unstarted_disk : {D : Type 0} → Starting D → D
-unstarted_disk (starting.NoMemory spent) = spent.disk
-unstarted_disk (starting.NotSpool raw place) = raw.disk
-unstarted_disk (starting.DiskFailed spent) = spent.disk
-unstarted_disk (starting.NumbersSpent spent) = spent.disk
+abbrev pub unstarted_disk : {D : Type 0} → Starting D NoRecipes → D
+unstarted_disk (starting.NoMemory spent keeper) = spent.disk
+unstarted_disk (starting.NotSpool raw place keeper) = raw.disk
+unstarted_disk (starting.DiskFailed spent keeper) = spent.disk
+unstarted_disk (starting.NumbersSpent spent keeper) = spent.disk
 
 -- what a start that is refused comes to
-abbrev pub outcome_of_start : {D : Type 0} → Starting D → Outcome
-outcome_of_start (starting.NoMemory spent) = NoMemory
-outcome_of_start (starting.NotSpool raw place) = NotSpool place.at
-outcome_of_start (starting.DiskFailed spent) = DiskFailed
-outcome_of_start (starting.NumbersSpent spent) = NumbersSpent
+abbrev pub outcome_of_start : {D : Type 0} → Starting D NoRecipes → Outcome
+outcome_of_start (starting.NoMemory spent keeper) = NoMemory
+outcome_of_start (starting.NotSpool raw place keeper) = NotSpool place.at
+outcome_of_start (starting.DiskFailed spent keeper) = DiskFailed
+outcome_of_start (starting.NumbersSpent spent keeper) = NumbersSpent

@@ -12,7 +12,7 @@ ghost use Rattle.message_end.specs.Core.{Step};
 ghost use Rattle.message_end.specs.Ends.{IsEmpty, Leaves, MayTake, Uses, input_of, none_asked, printed};
 ghost use Rattle.equipment_tables.specs.Plan.{EquipmentPlanFits};
 ghost use Rattle.tool_step.specs.Equipment.{EquipmentView};
-ghost use Rattle.equipment_node.specs.Held.{IsIn, view_in};
+ghost use Rattle.equipment_node.specs.Held.{of_disk};
 ghost use Rattle.equipment_node.specs.Stepping.{stop_by};
 ghost use Rattle.end_run.specs.Counts.{Counts, StepCounts, counted};
 ghost use Rattle.end_run.specs.Scenes.{Stays};
@@ -21,8 +21,9 @@ ghost use Rattle.end_run.specs.Sides.{told_equipment};
 ghost use Rattle.gemline_app.specs.Equipment.{EquipmentComes, FileRuns, RunsFrom, SpoolRuns, linked_machine};
 ghost use Rattle.gemline_app.specs.Filed.{bytes_told};
 ghost use Rattle.gemline_app.specs.LinkTold.{ConnectsOnce, link_told};
-ghost use Rattle.gemline_app.specs.LinkedEquipment.{HoldsOne, IsGoing, IsKnown, LeavesDevice, device_by, device_of, disk_in};
-ghost use Rattle.gemline_app.specs.LinkedEquipment.{linked_view, outcome_of_start, spent_by, unstarted_disk};
+ghost use Rattle.gemline_app.specs.LinkedEquipment.{HoldsOne, IsGoing, IsKnown, IsTool, LeavesDevice, device_by, device_of};
+ghost use Rattle.gemline_app.specs.LinkedEquipment.{disk_in, linked_view, outcome_of_start, spent_by, tool_view};
+ghost use Rattle.gemline_app.specs.LinkedEquipment.{unstarted_disk};
 
 use crate::host::outcome_of_ending;
 use crate::inputs::plans_and_script;
@@ -31,6 +32,7 @@ use arrayvec::ArrayVec;
 use disk_base::{Disk, DiskAnswer};
 use end_run::{Ending, LinkedEnd, run_started};
 use equipment_node::{Ended, Equipment, EquipmentPlan, Starting, ToolCommand};
+use gem_recipes::NoRecipes;
 use gl_base::{Files, Link, Row, Side, Sink, Source};
 use line_schedule::{Script, ScriptStep};
 use message_end::Stop;
@@ -41,7 +43,7 @@ use std::alloc::Global;
 /// The equipment as it is run over a link: it goes on, or a step has stopped it and its device is left.
 #[derive(Drop)]
 pub struct LinkedEquipment<D: Disk> {
-    going: Option<Equipment<D>>,
+    going: Option<Equipment<D, NoRecipes>>,
     spent: Option<Spent<D>>,
 }
 
@@ -142,7 +144,7 @@ impl<D: Disk + Drop> LinkedEnd for LinkedEquipment<D> {
 
 impl<D: Disk + Drop> LinkedEquipment<D> {
     /// One that has started, and goes on.
-    pub fn new(equipment: Equipment<D>) -> LinkedEquipment<D>
+    pub fn new(equipment: Equipment<D, NoRecipes>) -> LinkedEquipment<D>
         ensures { result ≡ record { going = Some equipment; spent = None } }
     {
         LinkedEquipment {
@@ -155,7 +157,7 @@ impl<D: Disk + Drop> LinkedEquipment<D> {
     fn step_with(
         &mut self,
         alloc: Global,
-        equipment: Equipment<D>,
+        equipment: Equipment<D, NoRecipes>,
         input: NodeInput<'_, ToolCommand>,
         now: u64,
         out: &mut StepOut,
@@ -165,25 +167,25 @@ impl<D: Disk + Drop> LinkedEquipment<D> {
         requires none_left { self.old.spent ≡ None }
         requires input { MayTake ToolCommandFits (input_of input) }
         requires out { IsEmpty out.old }
-        ensures step { IsIn D.Disk equipment → Leaves
-            (linked_machine.stops (view_in D.Disk equipment) (input_of input.entry) now)
+        ensures step { IsTool D.Disk equipment → Leaves
+            (linked_machine.stops (tool_view D.Disk equipment) (input_of input.entry) now)
             false
-            (linked_machine.act (view_in D.Disk equipment) (input_of input.entry) now)
+            (linked_machine.act (tool_view D.Disk equipment) (input_of input.entry) now)
             (linked_view D.Disk self.new.going)
             out.new
             result }
-        ensures end { IsIn D.Disk equipment → Stays
+        ensures end { IsTool D.Disk equipment → Stays
             (IsKnown D.Disk)
             (LeavesDevice D.Disk)
-            (view_in D.Disk equipment)
+            (tool_view D.Disk equipment)
             (input_of input.entry)
             now
             out.new
             self.new
             result }
-        ensures room { IsIn D.Disk equipment → Uses
+        ensures room { IsTool D.Disk equipment → Uses
             none_asked
-            (linked_machine.asks (view_in D.Disk equipment) (input_of input.entry) now)
+            (linked_machine.asks (tool_view D.Disk equipment) (input_of input.entry) now)
             none_asked
             result }
         ensures device { StepCounts
@@ -202,21 +204,21 @@ impl<D: Disk + Drop> LinkedEquipment<D> {
     }
 
     // A step has stopped it, and left its device.
-    fn stop(&mut self, ended: Ended<D>) -> Stop
-        ensures why { result ≡ stop_by ended }
-        ensures spent { self.new.spent ≡ Some (spent_by ended) }
+    fn stop(&mut self, ended: Ended<D, NoRecipes>) -> Stop
+        ensures why { result ≡ stop_by (of_disk ended) }
+        ensures spent { self.new.spent ≡ Some (spent_by (of_disk ended)) }
         ensures going { self.new.going ≡ self.old.going }
     {
         match ended {
-            Ended::NoMemory(spent) => {
+            Ended::NoMemory(spent, _) => {
                 self.spent = Some(spent);
                 Stop::NoMemory
             }
-            Ended::DiskFailed(spent) => {
+            Ended::DiskFailed(spent, _) => {
                 self.spent = Some(spent);
                 Stop::DiskFailed
             }
-            Ended::NumbersSpent(spent) => {
+            Ended::NumbersSpent(spent, _) => {
                 self.spent = Some(spent);
                 Stop::NumbersSpent
             }
@@ -230,7 +232,7 @@ impl<D: Disk + Drop> LinkedEquipment<D> {
     {
         let LinkedEquipment { going, spent } = self;
         match going {
-            Some(equipment) => equipment.power_off().into_disk(),
+            Some(equipment) => equipment.power_off().0.into_disk(),
             None => left_disk(spent),
         }
     }
@@ -378,7 +380,7 @@ fn run_over<D: Disk + Drop, L: Link, W: Sink>(
         line: ArrayVec::new(),
         notes: Row::new(alloc),
     };
-    match Equipment::start(alloc, plan, raw, 0, &mut step) {
+    match Equipment::start(alloc, plan, raw, NoRecipes, 0, &mut step) {
         Ok(equipment) => {
             let (ended, disk) = run_linked(
                 alloc,
@@ -399,7 +401,7 @@ fn run_over<D: Disk + Drop, L: Link, W: Sink>(
 // Runs the equipment, of whose start these are the notes.
 fn run_linked<D: Disk + Drop, L: Link, W: Sink>(
     alloc: Global,
-    equipment: Equipment<D>,
+    equipment: Equipment<D, NoRecipes>,
     notes: &[Note],
     script: &Script,
     address: &str,
@@ -408,8 +410,8 @@ fn run_linked<D: Disk + Drop, L: Link, W: Sink>(
     out: &mut W,
 ) -> (Ending, D)
     requires script { AreTold told_equipment ToolCommandFits script.now.lines }
-    ensures runs { IsIn D.Disk equipment → (start : Step EquipmentView Happening)
-        → start.next ≡ view_in D.Disk equipment → printed start.notes ≡ notes.now → RunsFrom
+    ensures runs { IsTool D.Disk equipment → (start : Step EquipmentView Happening)
+        → start.next ≡ tool_view D.Disk equipment → printed start.notes ≡ notes.now → RunsFrom
         start
         script.now.lines
         polls
@@ -442,14 +444,14 @@ fn run_linked<D: Disk + Drop, L: Link, W: Sink>(
 }
 
 /// What a start that was refused comes to, and its device.
-pub fn not_started<D: Disk>(why: Starting<D>) -> (Outcome, D)
+pub fn not_started<D: Disk>(why: Starting<D, NoRecipes>) -> (Outcome, D)
     ensures outcome { result.0 ≡ outcome_of_start why }
     ensures disk { result.1 ≡ unstarted_disk why }
 {
     match why {
-        Starting::NoMemory(spent) => (Outcome::NoMemory, spent.into_disk()),
-        Starting::NotSpool(raw, place) => (Outcome::NotSpool { at: place.at }, raw.into_disk()),
-        Starting::DiskFailed(spent) => (Outcome::DiskFailed, spent.into_disk()),
-        Starting::NumbersSpent(spent) => (Outcome::NumbersSpent, spent.into_disk()),
+        Starting::NoMemory(spent, _) => (Outcome::NoMemory, spent.into_disk()),
+        Starting::NotSpool(raw, place, _) => (Outcome::NotSpool { at: place.at }, raw.into_disk()),
+        Starting::DiskFailed(spent, _) => (Outcome::DiskFailed, spent.into_disk()),
+        Starting::NumbersSpent(spent, _) => (Outcome::NumbersSpent, spent.into_disk()),
     }
 }

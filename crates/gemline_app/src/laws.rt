@@ -28,8 +28,8 @@ pub fn equipments_are_answered()
     ensures { EquipmentsAreAnswered }
 {}
 
-/// And so does a host with a journal, over a disk that tells bytes which stand for a spool, and any link; or its journal
-/// is full.
+/// And so does a host with a journal, over a disk that tells bytes which stand for a spool, and any link; or its
+/// journal is full.
 pub fn journal_hosts_are_answered()
     ensures { JournalHostsAreAnswered }
 {}

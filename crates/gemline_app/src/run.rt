@@ -43,11 +43,10 @@ const ITEM_LIMIT: usize = 1024 * 1024;
 /// `spell` makes hex with as few length bytes as can be; `spell --hex` makes the text from hex on `input`. `replay`
 /// finds a plan and a schedule in `files`, lets both ends of a line run by them and tells what they do, as a trace.
 /// `equipment` and `host` run an end of a line by a plan in `files` and by the script on `input`, over `link`, and tell
-/// what it does, each line before the characters of its step are sent; the equipment has its spool on `disk`, and so has
-/// a host its journal, if it is to have one. `format` makes a spool file on `disk`, `spool` writes the list of one, and
-/// `drop` drops its first messages. `make` lets both ends of a line run by so
-/// many made rounds, and tells how many lines of their trace there are of each kind. `err` gets one line where the
-/// status isn't 0.
+/// what it does, each line before the characters of its step are sent; the equipment has its spool on `disk`, and so
+/// has a host its journal, if it is to have one. `format` makes a spool file on `disk`, `spool` writes the list of one,
+/// and `drop` drops its first messages. `make` lets both ends of a line run by so many made rounds, and tells how many
+/// lines of their trace there are of each kind. `err` gets one line where the status isn't 0.
 pub fn gemline<F: Files, R: Source, W: Sink, E: Sink, D: Disk, L: Link>(
     alloc: Global,
     words: &[String],

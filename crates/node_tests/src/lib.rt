@@ -15,6 +15,7 @@ mod planned_tool;
 #[cfg(test)]
 mod played_host;
 #[cfg(test)]
+#[cfg(test)]
 mod reports;
 #[cfg(test)]
 mod trace_data;

@@ -3,11 +3,12 @@
 ghost use Rattle.message_end.specs.Ends.{MayTake, input_of};
 ghost use Rattle.trace_log.specs.Commands.{ToolCommandFits};
 
-use crate::planned_tool::{formatted, plan};
+use crate::planned_tool::{formatted, starts};
 use crate::played_host::{WHOLE, block, keeps, nothing_yet};
 use block_codec::frame_of;
 use disk_base::{CutChoice, MemDisk};
 use equipment_node::{Ended, Equipment};
+use gem_recipes::NoRecipes;
 use gem_spool::GemSpool;
 use gl_base::Row;
 use message_flow::{NodeInput, StepOut};
@@ -254,7 +255,7 @@ static RESERVES: [Loss; 5] = [
 // something else has.
 #[derive(Drop)]
 enum Course {
-    Goes(Equipment<MemDisk>),
+    Goes(Equipment<MemDisk, NoRecipes>),
     Failed(Spent<MemDisk>, Row<u8>),
     Stuck,
 }
@@ -310,13 +311,17 @@ fn failed(alloc: Global, spent: Spent<MemDisk>, out: &StepOut) -> Course {
 }
 
 // One step.
-fn steps(alloc: Global, equipment: Equipment<MemDisk>, input: NodeInput<'_, ToolCommand>) -> Course
+fn steps(
+    alloc: Global,
+    equipment: Equipment<MemDisk, NoRecipes>,
+    input: NodeInput<'_, ToolCommand>,
+) -> Course
     requires { MayTake ToolCommandFits (input_of input) }
 {
     let mut out = nothing_yet(alloc);
     match equipment.step(alloc, input, 0, &mut out) {
         Ok(equipment) => Course::Goes(equipment),
-        Err(Ended::DiskFailed(spent)) => failed(alloc, spent, &out),
+        Err(Ended::DiskFailed(spent, _)) => failed(alloc, spent, &out),
         Err(_) => Course::Stuck,
     }
 }
@@ -375,16 +380,9 @@ fn hears(
 
 // A start over a spool.
 fn started_over(alloc: Global, spool: GemSpool<MemDisk>) -> Course {
-    let Some(plan) = plan(alloc) else {
-        return Course::Stuck;
-    };
-    if !plan.fits() {
-        return Course::Stuck;
-    }
-    let mut out = nothing_yet(alloc);
-    match Equipment::start(alloc, &plan, spool.retire().into_raw(), 0, &mut out) {
-        Ok(equipment) => Course::Goes(equipment),
-        Err(_) => Course::Stuck,
+    match starts(alloc, spool.retire().into_raw(), NoRecipes) {
+        Some((equipment, _)) => Course::Goes(equipment),
+        None => Course::Stuck,
     }
 }
 
@@ -505,16 +503,12 @@ fn goes_without(alloc: Global, act: Act, call: u32) -> bool {
 
 // Whether a start over what a crash leaves notes this.
 fn starts_with(alloc: Global, disk: &MemDisk, choice: CutChoice, notes: &[u8]) -> bool {
-    let (Some(plan), Ok(cut)) = (plan(alloc), disk.cut(alloc, choice)) else {
+    let Ok(cut) = disk.cut(alloc, choice) else {
         return false;
     };
-    if !plan.fits() {
-        return false;
-    }
-    let mut out = nothing_yet(alloc);
-    match Equipment::start(alloc, &plan, Raw::new(cut), 0, &mut out) {
-        Ok(_) => noted(alloc, &out).is_some_and(|text| text.as_slice() == notes),
-        Err(_) => false,
+    match starts(alloc, Raw::new(cut), NoRecipes) {
+        Some((_, out)) => noted(alloc, &out).is_some_and(|text| text.as_slice() == notes),
+        None => false,
     }
 }
 

@@ -1,8 +1,13 @@
 //! The tool of the tests.
 
+ghost use Rattle.std.specs.Prelude.{◌≡◌, true};
+
+use crate::played_host::nothing_yet;
 use disk_base::MemDisk;
+use equipment_node::Equipment;
 use equipment_tables::EquipmentPlan;
 use gem_alarms::AlarmPlan;
+use gem_recipes::RecipeKeeper;
 use gem_remote::{CommandPlan, ParamPlan, RemotePlan};
 use gem_shapes::RuleEntry;
 use gem_spool::GemSpool;
@@ -10,6 +15,7 @@ use gem_states::ControlState;
 use gem_vars::{VariablePlan, VarsPlan};
 use gl_base::Row;
 use line_end::{LinePlan, Times};
+use message_flow::StepOut;
 use secs_items::{Item, Kind};
 use spool_file::area_end;
 use spool_slots::Raw;
@@ -20,7 +26,7 @@ fn copied(alloc: Global, text: &[u8]) -> Option<Row<u8>> {
 }
 
 /// HOST OFF-LINE, with variable 1, event 1, alarm 7 and the command START; alarms are spooled.
-pub(crate) fn plan(alloc: Global) -> Option<EquipmentPlan> {
+fn plan(alloc: Global) -> Option<EquipmentPlan> {
     let mut variables = Row::new(alloc);
     variables
         .push(VariablePlan {
@@ -100,6 +106,25 @@ pub(crate) fn formatted(alloc: Global, slots: u32) -> Option<GemSpool<MemDisk>> 
     };
     match Raw::new(disk).format(slots) {
         Ok(spool) => Some(GemSpool::new(spool)),
+        Err(_) => None,
+    }
+}
+
+/// A start of it with a keeper of recipes, and what that notes.
+pub(crate) fn starts<K: RecipeKeeper + Drop>(
+    alloc: Global,
+    raw: Raw<MemDisk>,
+    keeper: K,
+) -> Option<(Equipment<MemDisk, K>, StepOut)>
+    requires { K.offers_is keeper ≡ true → K.sound keeper }
+{
+    let plan = plan(alloc)?;
+    if !plan.fits() {
+        return None;
+    }
+    let mut out = nothing_yet(alloc);
+    match Equipment::start(alloc, &plan, raw, keeper, 0, &mut out) {
+        Ok(equipment) => Some((equipment, out)),
         Err(_) => None,
     }
 }

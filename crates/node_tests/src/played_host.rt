@@ -1,14 +1,15 @@
 //! An equipment whose host is played by a test.
 
-ghost use Rattle.std.specs.Prelude.{◌<◌, ◌^◌};
+ghost use Rattle.std.specs.Prelude.{◌≡◌, ◌<◌, ◌^◌, true};
 ghost use Rattle.message_end.specs.Ends.{IsEmpty, MayTake, input_of};
 ghost use Rattle.trace_log.specs.Commands.{ToolCommandFits};
 
-use crate::planned_tool::{formatted, plan};
+use crate::planned_tool::{formatted, starts};
 use arrayvec::ArrayVec;
 use block_codec::{Block, Header, frame_of};
 use disk_base::MemDisk;
 use equipment_node::Equipment;
+use gem_recipes::{NoRecipes, RecipeKeeper};
 use gl_base::Row;
 use message_flow::{NodeInput, StepOut};
 use secs_items::Item;
@@ -179,9 +180,9 @@ fn last_of(out: &StepOut) -> u8 {
 }
 
 // One step. The answer is the last character that it wrote, or 0; `None` where memory ran out.
-fn steps(
+fn steps<K: RecipeKeeper + Drop>(
     alloc: Global,
-    equipment: &mut Option<Equipment<MemDisk>>,
+    equipment: &mut Option<Equipment<MemDisk, K>>,
     input: NodeInput<'_, ToolCommand>,
     now: u64,
     text: &mut Row<u8>,
@@ -204,9 +205,9 @@ fn steps(
 }
 
 // Its host lets it send a block.
-fn lets_send(
+fn lets_send<K: RecipeKeeper + Drop>(
     alloc: Global,
-    equipment: &mut Option<Equipment<MemDisk>>,
+    equipment: &mut Option<Equipment<MemDisk, K>>,
     now: u64,
     text: &mut Row<u8>,
 ) -> Option<u8>
@@ -219,9 +220,9 @@ fn lets_send(
 }
 
 // The host takes all that it wants to send, where its last character asks for the line.
-fn listens(
+fn listens<K: RecipeKeeper + Drop>(
     alloc: Global,
-    equipment: &mut Option<Equipment<MemDisk>>,
+    equipment: &mut Option<Equipment<MemDisk, K>>,
     now: u64,
     text: &mut Row<u8>,
     asked: Option<u8>,
@@ -240,9 +241,9 @@ fn listens(
 }
 
 // The host sends these characters. The answer is the last one that it wrote then.
-fn takes(
+fn takes<K: RecipeKeeper + Drop>(
     alloc: Global,
-    equipment: &mut Option<Equipment<MemDisk>>,
+    equipment: &mut Option<Equipment<MemDisk, K>>,
     characters: &[u8],
     now: u64,
     text: &mut Row<u8>,
@@ -301,9 +302,9 @@ fn foreign(from_equipment: bool, device: u16, system: u32) -> Option<Block> {
 }
 
 // The host sends a block, and takes all that it wants to send then.
-fn hears(
+fn hears<K: RecipeKeeper + Drop>(
     alloc: Global,
-    equipment: &mut Option<Equipment<MemDisk>>,
+    equipment: &mut Option<Equipment<MemDisk, K>>,
     block: Option<Block>,
     now: u64,
     text: &mut Row<u8>,
@@ -323,9 +324,9 @@ fn hears(
 }
 
 // Its tool does something.
-fn obeys(
+fn obeys<K: RecipeKeeper + Drop>(
     alloc: Global,
-    equipment: &mut Option<Equipment<MemDisk>>,
+    equipment: &mut Option<Equipment<MemDisk, K>>,
     command: &ToolCommand,
     now: u64,
     text: &mut Row<u8>,
@@ -367,9 +368,9 @@ fn definition(alloc: Global, count: u8) -> Option<Row<u8>> {
     naming(alloc, &front, count)
 }
 
-fn defines(
+fn defines<K: RecipeKeeper + Drop>(
     alloc: Global,
-    equipment: &mut Option<Equipment<MemDisk>>,
+    equipment: &mut Option<Equipment<MemDisk, K>>,
     count: u8,
     now: u64,
     text: &mut Row<u8>,
@@ -398,9 +399,9 @@ fn tracing(alloc: Global, asked: [u8; 4]) -> Option<Row<u8>> {
     naming(alloc, &front, count)
 }
 
-fn traces(
+fn traces<K: RecipeKeeper + Drop>(
     alloc: Global,
-    equipment: &mut Option<Equipment<MemDisk>>,
+    equipment: &mut Option<Equipment<MemDisk, K>>,
     system: u32,
     asked: [u8; 4],
     now: u64,
@@ -416,9 +417,9 @@ fn traces(
 }
 
 // The host sets so many traces.
-fn sets_traces(
+fn sets_traces<K: RecipeKeeper + Drop>(
     alloc: Global,
-    equipment: &mut Option<Equipment<MemDisk>>,
+    equipment: &mut Option<Equipment<MemDisk, K>>,
     count: u8,
     now: u64,
     text: &mut Row<u8>,
@@ -436,9 +437,9 @@ fn sets_traces(
 }
 
 // Its tool has event 1 so many times.
-fn has_events(
+fn has_events<K: RecipeKeeper + Drop>(
     alloc: Global,
-    equipment: &mut Option<Equipment<MemDisk>>,
+    equipment: &mut Option<Equipment<MemDisk, K>>,
     count: u32,
     now: u64,
     text: &mut Row<u8>,
@@ -454,9 +455,9 @@ fn has_events(
 }
 
 // The host begins so many messages.
-fn begins(
+fn begins<K: RecipeKeeper + Drop>(
     alloc: Global,
-    equipment: &mut Option<Equipment<MemDisk>>,
+    equipment: &mut Option<Equipment<MemDisk, K>>,
     count: u32,
     now: u64,
     text: &mut Row<u8>,
@@ -472,9 +473,9 @@ fn begins(
     true
 }
 
-fn is_done(
+fn is_done<K: RecipeKeeper + Drop>(
     alloc: Global,
-    equipment: &mut Option<Equipment<MemDisk>>,
+    equipment: &mut Option<Equipment<MemDisk, K>>,
     given: &Given,
     now: u64,
     text: &mut Row<u8>,
@@ -526,20 +527,29 @@ fn is_text(text: &[u8], wanted: &Text) -> bool {
 }
 
 // When it next acts by itself.
-fn acts_at(equipment: &Option<Equipment<MemDisk>>) -> Option<u64> {
+fn acts_at<K: RecipeKeeper + Drop>(equipment: &Option<Equipment<MemDisk, K>>) -> Option<u64> {
     match equipment {
         Some(equipment) => equipment.deadline(),
         None => None,
     }
 }
 
-fn goes(alloc: Global, equipment: &mut Option<Equipment<MemDisk>>, case: &Case) -> bool {
+fn goes<K: RecipeKeeper + Drop>(
+    alloc: Global,
+    equipment: &mut Option<Equipment<MemDisk, K>>,
+    case: &Case,
+) -> bool {
     let now = case.now.min(1_000_000);
     let mut text = Row::new(alloc);
     is_done(alloc, equipment, &case.given, now, &mut text) && is_text(text.as_slice(), &case.text)
 }
 
-fn go_all(alloc: Global, equipment: &mut Option<Equipment<MemDisk>>, cases: &[Case]) -> bool {
+/// Whether it goes through all of this.
+pub(crate) fn go_all<K: RecipeKeeper + Drop>(
+    alloc: Global,
+    equipment: &mut Option<Equipment<MemDisk, K>>,
+    cases: &[Case],
+) -> bool {
     for case in cases {
         if !goes(alloc, equipment, case) {
             return false;
@@ -548,30 +558,38 @@ fn go_all(alloc: Global, equipment: &mut Option<Equipment<MemDisk>>, cases: &[Ca
     true
 }
 
-fn started(alloc: Global) -> Option<Equipment<MemDisk>> {
-    let Some(plan) = plan(alloc) else {
-        return None;
-    };
-    if !plan.fits() {
-        return None;
-    }
-    let mut out = nothing_yet(alloc);
-    let Some(spool) = formatted(alloc, 2) else {
-        return None;
-    };
-    match Equipment::start(alloc, &plan, spool.retire().into_raw(), 0, &mut out) {
-        Ok(equipment) => Some(equipment),
-        Err(_) => None,
+/// An equipment that has started with a keeper of recipes.
+pub(crate) fn started<K: RecipeKeeper + Drop>(
+    alloc: Global,
+    keeper: K,
+) -> Option<Equipment<MemDisk, K>>
+    requires { K.offers_is keeper ≡ true → K.sound keeper }
+{
+    let spool = formatted(alloc, 2)?;
+    match starts(alloc, spool.retire().into_raw(), keeper) {
+        Some((equipment, _)) => Some(equipment),
+        None => None,
     }
 }
 
-/// Whether an equipment that has started goes through all of this.
-pub(crate) fn runs(alloc: Global, stages: &[&[Case]]) -> bool {
-    let mut equipment = started(alloc);
+/// Whether an equipment that has started with a keeper of recipes goes through all of this.
+pub(crate) fn runs_with<K: RecipeKeeper + Drop>(
+    alloc: Global,
+    keeper: K,
+    stages: &[&[Case]],
+) -> bool
+    requires { K.offers_is keeper ≡ true → K.sound keeper }
+{
+    let mut equipment = started(alloc, keeper);
     for stage in stages {
         if !go_all(alloc, &mut equipment, stage) {
             return false;
         }
     }
     true
+}
+
+/// The same with one that offers no recipes.
+pub(crate) fn runs(alloc: Global, stages: &[&[Case]]) -> bool {
+    runs_with(alloc, NoRecipes, stages)
 }

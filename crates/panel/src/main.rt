@@ -6,6 +6,7 @@ use arrayvec::ArrayVec;
 use disk_base::MemDisk;
 use equipment_node::{Equipment, ToolCommand};
 use gem_config::read_plans;
+use gem_recipes::NoRecipes;
 use gl_base::{Row, Side};
 use message_flow::{NodeInput, StepOut};
 use spool_file::area_end;
@@ -25,7 +26,7 @@ fn main(rt: HostRuntime) -> ExitCode {
 }
 
 // Starts the equipment, lets time pass until it knows that nobody answers, and sets the alarm.
-fn drive(rt: &HostRuntime) -> Option<Equipment<MemDisk>> {
+fn drive(rt: &HostRuntime) -> Option<Equipment<MemDisk, NoRecipes>> {
     let plan = read_plans(rt.alloc(), PLAN).ok()?.equipment;
     if !plan.fits() {
         return None;
@@ -34,7 +35,8 @@ fn drive(rt: &HostRuntime) -> Option<Equipment<MemDisk>> {
         line: ArrayVec::new(),
         notes: Row::new(rt.alloc()),
     };
-    let equipment = Equipment::start(rt.alloc(), &plan, formatted(rt)?, 0, &mut out).ok()?;
+    let raw = formatted(rt)?;
+    let equipment = Equipment::start(rt.alloc(), &plan, raw, NoRecipes, 0, &mut out).ok()?;
     show(rt, 0, &out)?;
     let equipment = step(rt, equipment, None, 0)?;
     let now = equipment.deadline()?;
@@ -52,10 +54,10 @@ fn formatted(rt: &HostRuntime) -> Option<Raw<MemDisk>> {
 // One step, for a command or for time alone, which is shown.
 fn step(
     rt: &HostRuntime,
-    equipment: Equipment<MemDisk>,
+    equipment: Equipment<MemDisk, NoRecipes>,
     command: Option<&ToolCommand>,
     moment: u64,
-) -> Option<Equipment<MemDisk>> {
+) -> Option<Equipment<MemDisk, NoRecipes>> {
     let now = moment.min((1 << 62) - 1);
     let input = match command {
         Some(command) if command.fits() => NodeInput::Command(command),

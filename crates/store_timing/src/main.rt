@@ -5,6 +5,7 @@
 use arrayvec::ArrayVec;
 use disk_base::{Disk, DiskAnswer, MemDisk, settle};
 use equipment_node::{Equipment, EquipmentPlan, ToolCommand};
+use gem_recipes::NoRecipes;
 use gem_remote::RemotePlan;
 use gem_shapes::RuleEntry;
 use gem_states::ControlState;
@@ -78,7 +79,8 @@ fn disk_with(alloc: Global, slots: u32, turns: u32, length: u16) -> Option<MemDi
     for _ in 0..turns {
         equipment = with_text(alloc, equipment, &command)?;
     }
-    Some(equipment.power_off().into_disk())
+    let (spent, _) = equipment.power_off();
+    Some(spent.into_disk())
 }
 
 // How many messages are found on a disk.
@@ -90,7 +92,7 @@ fn found(disk: MemDisk) -> Option<u32> {
 }
 
 // An equipment that nobody answers, so that its spool is active.
-fn spooling(alloc: Global, slots: u32) -> Option<Equipment<MemDisk>> {
+fn spooling(alloc: Global, slots: u32) -> Option<Equipment<MemDisk, NoRecipes>> {
     let plan = plan(alloc).ok()?;
     if !plan.fits() {
         return None;
@@ -99,7 +101,8 @@ fn spooling(alloc: Global, slots: u32) -> Option<Equipment<MemDisk>> {
         line: ArrayVec::new(),
         notes: Row::new(alloc),
     };
-    let equipment = Equipment::start(alloc, &plan, formatted(alloc, slots)?, 0, &mut out).ok()?;
+    let raw = formatted(alloc, slots)?;
+    let equipment = Equipment::start(alloc, &plan, raw, NoRecipes, 0, &mut out).ok()?;
     at_moment(alloc, at_moment(alloc, equipment, 0)?, GIVES_UP)
 }
 
@@ -160,7 +163,11 @@ fn text_of(alloc: Global, length: u16) -> Result<Row<u8>, NoMemory> {
 }
 
 // An equipment after a step for time alone.
-fn at_moment(alloc: Global, equipment: Equipment<MemDisk>, now: u32) -> Option<Equipment<MemDisk>> {
+fn at_moment(
+    alloc: Global,
+    equipment: Equipment<MemDisk, NoRecipes>,
+    now: u32,
+) -> Option<Equipment<MemDisk, NoRecipes>> {
     let mut out = StepOut {
         line: ArrayVec::new(),
         notes: Row::new(alloc),
@@ -173,9 +180,9 @@ fn at_moment(alloc: Global, equipment: Equipment<MemDisk>, now: u32) -> Option<E
 // An equipment after a step that stores the text of a command.
 fn with_text(
     alloc: Global,
-    equipment: Equipment<MemDisk>,
+    equipment: Equipment<MemDisk, NoRecipes>,
     command: &ToolCommand,
-) -> Option<Equipment<MemDisk>> {
+) -> Option<Equipment<MemDisk, NoRecipes>> {
     if !command.fits() {
         return None;
     }

@@ -11,11 +11,10 @@ ghost use Rattle.message_end.specs.Core.{Step};
 ghost use Rattle.message_end.specs.Ends.{printed};
 ghost use Rattle.equipment_tables.specs.Plan.{EquipmentPlanFits};
 ghost use Rattle.tool_step.specs.Equipment.{EquipmentView};
-ghost use Rattle.equipment_node.specs.Held.{IsIn, view_in};
 ghost use Rattle.end_run.specs.Counts.{Counts, counted};
 ghost use Rattle.gemline_app.specs.Filed.{bytes_told};
 ghost use Rattle.gemline_app.specs.LinkTold.{ConnectsOnce, link_told};
-ghost use Rattle.gemline_app.specs.LinkedEquipment.{device_of};
+ghost use Rattle.gemline_app.specs.LinkedEquipment.{IsTool, device_of, tool_view};
 ghost use Rattle.tool_app.specs.Run.{RunsLive};
 ghost use Rattle.live_teller.specs.Stages.{IsFresh};
 ghost use Rattle.tool_app.specs.Tool.{FileComes, SpoolComes, ToolComes, beside_told, outcome_of_run};
@@ -24,6 +23,7 @@ use arrayvec::ArrayVec;
 use disk_base::{Disk, DiskAnswer};
 use end_run::{Ending, run_told};
 use equipment_node::{Equipment, EquipmentPlan};
+use gem_recipes::NoRecipes;
 use gemline_app::{LinkedEquipment, Outcome, not_started, outcome_of_ending, plans_in};
 use gl_base::{Files, Link, Row, Side, Sink};
 use live_teller::{Beside, LiveTeller};
@@ -155,7 +155,7 @@ fn run_over<B: Beside<L>, D: Disk + Drop, L: Link, W: Sink>(
         line: ArrayVec::new(),
         notes: Row::new(alloc),
     };
-    match Equipment::start(alloc, plan, raw, 0, &mut step) {
+    match Equipment::start(alloc, plan, raw, NoRecipes, 0, &mut step) {
         Ok(equipment) => {
             let faults = told.beside().faults();
             let notes = step.notes.as_slice();
@@ -169,7 +169,7 @@ fn run_over<B: Beside<L>, D: Disk + Drop, L: Link, W: Sink>(
 // Runs a tool, of whose start these are the notes.
 fn run_linked<B: Beside<L>, D: Disk + Drop, L: Link, W: Sink>(
     alloc: Global,
-    equipment: Equipment<D>,
+    equipment: Equipment<D, NoRecipes>,
     notes: &[Note],
     address: &str,
     told: &mut LiveTeller<B>,
@@ -177,8 +177,8 @@ fn run_linked<B: Beside<L>, D: Disk + Drop, L: Link, W: Sink>(
     out: &mut W,
 ) -> (Ending, D)
     requires { IsFresh told.old.reader told.old.stage }
-    ensures runs { IsIn D.Disk equipment → (start : Step EquipmentView Happening)
-        → start.next ≡ view_in D.Disk equipment → printed start.notes ≡ notes.now → RunsLive
+    ensures runs { IsTool D.Disk equipment → (start : Step EquipmentView Happening)
+        → start.next ≡ tool_view D.Disk equipment → printed start.notes ≡ notes.now → RunsLive
         start
         (B.to_come told.old.beside)
         (D.told result.1)

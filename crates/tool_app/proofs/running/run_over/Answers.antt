@@ -28,7 +28,8 @@ returns-in-Ok-clause-came g c =
               start = begun.gone.step;
               started = begun.gone.is;
               ran =
-                  c.run_linked-ended.ensures.runs (begun.in_state (c.requires.bytes s told)) begun.gone.step
+                  c.run_linked-ended.ensures.runs (begun.in_state (c.requires.bytes s told) (λ offers. absurd (cc)))
+                  begun.gone.step
                   begun.gone.next_is (sym begun.gone.notes ∙ sym c.as_slice-notes.ensures);
             };
       };
