@@ -257,6 +257,9 @@ impl Host {
         ensures at_most { array_vec_len out.new.line ≤ array_vec_len out.old.line + 257 }
     {
         self.delivered = None;
+        if !self.is_late(now) {
+            return Ok(());
+        }
         match self.core.tick(now, out) {
             Some(header) => self.break_off(alloc, &header, out),
             None => Ok(()),

@@ -3,7 +3,7 @@
 #![tactic(auto)]
 
 use arrayvec::ArrayVec;
-use block_codec::{ACK, Block, ENQ, EOT, Frame, Header, frame_of};
+use block_codec::{ACK, Block, ENQ, EOT, Header, frame_of};
 use disk_base::{Disk, DiskAnswer};
 use file_disk::FileDisk;
 use gl_base::Row;
@@ -39,8 +39,8 @@ fn main(rt: HostRuntime) -> io::Result<ExitCode> {
     }
 }
 
-// A host that takes so many messages with texts of this length, over the journal of this name. Says how many records are
-// found there then.
+// A host that takes so many messages with texts of this length, over the journal of this name. Says how many records
+// are found there then.
 fn list_again<D: Disk>(
     alloc: Global,
     disk: &mut D,
@@ -107,31 +107,31 @@ fn with_message<D: Disk + Drop>(
         system: turn,
     };
     let frame = frame_of(&Block::new(header, body)?);
-    let host = with_frame(alloc, with_char(alloc, host, ENQ)?, &frame)?;
     // (its reply waits for the line)
-    with_char(alloc, with_char(alloc, host, EOT)?, ACK)
+    let mut line = ArrayVec::<u8, 260>::new();
+    line.push(ENQ);
+    line.try_extend_from_slice(frame.as_slice()).ok()?;
+    line.try_extend_from_slice(&[EOT, ACK]).ok()?;
+    with_characters(alloc, host, line.as_slice())
 }
 
-fn with_frame<D: Disk + Drop>(
+// The host behind a step for each of these characters.
+fn with_characters<D: Disk + Drop>(
     alloc: Global,
     mut host: JournalHost<D>,
-    frame: &Frame,
-) -> Option<JournalHost<D>> {
-    for byte in frame.iter() {
-        host = with_char(alloc, host, *byte)?;
-    }
-    Some(host)
-}
-
-// The host behind the step of a character.
-fn with_char<D: Disk + Drop>(
-    alloc: Global,
-    host: JournalHost<D>,
-    byte: u8,
+    characters: &[u8],
 ) -> Option<JournalHost<D>> {
     let mut out = StepOut {
         line: ArrayVec::new(),
         notes: Row::new(alloc),
     };
-    host.step(alloc, NodeInput::Char(byte), 0, &mut out).ok()
+    for byte in characters.iter() {
+        host = match host.step(alloc, NodeInput::Char(*byte), 0, &mut out) {
+            Ok(host) => host,
+            Err(_) => return None,
+        };
+        out.line.clear();
+        out.notes.truncate(0);
+    }
+    Some(host)
 }
