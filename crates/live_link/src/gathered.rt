@@ -70,6 +70,11 @@ impl Gathered {
         Some(byte)
     }
 
+    /// Whether the last read may have left some: it filled its room, and nothing was taken since.
+    pub(crate) fn is_full(&self) -> bool {
+        self.count - self.taken == self.bytes.len()
+    }
+
     /// All of them.
     pub(crate) fn as_slice(&self) -> &[u8]
         ensures { result.now ≡ self.now }

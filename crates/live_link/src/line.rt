@@ -33,6 +33,8 @@ pub(crate) struct Line<L, S> {
     arrived: Gathered,
     // the moment behind the read that brought what has arrived
     came: u64,
+    // the last wait's read has taken all of the peer's characters, and more may come
+    emptied: bool,
 }
 
 impl<L: OpenListener<Stream = S> + AsRawFd, S: Read + Write + OpenStream + AsRawFd + Drop> Line<
@@ -54,6 +56,7 @@ impl<L: OpenListener<Stream = S> + AsRawFd, S: Read + Write + OpenStream + AsRaw
             start,
             arrived: Gathered::none(),
             came: 0,
+            emptied: false,
         })
     }
 
@@ -164,9 +167,9 @@ impl<L: OpenListener<Stream = S> + AsRawFd, S: Read + Write + OpenStream + AsRaw
         Ok(())
     }
 
-    // Watches anew what the last wait has found ready, and the input before its first wait. Tells whether that can't be
-    // waited for, and is always ready.
-    fn watch_anew<I: Read + AsRawFd>(&self, input: &mut LiveInput<I>) -> io::Result<bool>
+    // Watches anew what the last wait has found ready, but for a peer of which no character is left, and the input
+    // before its first wait. Tells whether that can't be waited for, and is always ready.
+    fn watch_anew<I: Read + AsRawFd>(&mut self, input: &mut LiveInput<I>) -> io::Result<bool>
         ensures bytes { input.new.bytes ≡ input.old.bytes }
         ensures source { input.new.source ≡ input.old.source }
     {
@@ -175,10 +178,12 @@ impl<L: OpenListener<Stream = S> + AsRawFd, S: Read + Write + OpenStream + AsRaw
         }
         if let Some(peer) = &self.peer
             && self.watch.is_ready(Watched::Characters)
+            && !self.emptied
         {
             self.watch
                 .add(peer.stream.as_raw_fd(), Watched::Characters)?;
         }
+        self.emptied = false;
         input.watch(&self.watch)
     }
 
@@ -215,7 +220,12 @@ impl<L: OpenListener<Stream = S> + AsRawFd, S: Read + Write + OpenStream + AsRaw
             return;
         };
         match self.arrived.fill(&mut peer.stream) {
-            Look::Came | Look::Nothing => {}
+            // (what comes behind a read that didn't fill its room is a change, which the next wait finds)
+            Look::Came => {
+                self.emptied = !self.arrived.is_full()
+                    && !self.watch.has_ended(Watched::Characters);
+            }
+            Look::Nothing => {}
             Look::Ended | Look::Failed => {
                 self.peer = None;
                 input.tell();

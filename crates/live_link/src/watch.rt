@@ -1,4 +1,5 @@
-//! One wait over several descriptors. Each is watched anew once a wait has found it ready.
+//! One wait over several descriptors. Each is watched anew once a wait has found it ready, unless all that was there was
+//! read.
 
 use gl_base::NoMemory;
 use mio::unix::SourceFd;
@@ -77,5 +78,10 @@ impl Watch {
     /// Whether the last wait found it ready.
     pub(crate) fn is_ready(&self, what: Watched) -> bool {
         self.ready.iter().any(|event| event.token() == what.token())
+    }
+
+    /// Whether the last wait found that no more will come to it than is there.
+    pub(crate) fn has_ended(&self, what: Watched) -> bool {
+        self.ready.iter().any(|event| event.token() == what.token() && event.is_read_closed())
     }
 }
