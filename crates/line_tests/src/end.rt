@@ -5,7 +5,7 @@ ghost use Rattle.std.specs.Prelude.{◌<◌, ◌^◌};
 use crate::end_rows::{CHARACTERS, Case, DEADLINES, Deadline, Ends, Row, Tells, Waits, Writes};
 use Call::{Cancel, Resume, Send, Take, Tick};
 use Writes::{Frame, One, Quiet};
-use block_codec::{block_of, frame_of};
+use block_codec::{Block, Header, block_of, frame_of};
 use gl_base::Side;
 use line_end::{Chars, LineCause, LineEnd, LineEvent, Phase, Times};
 use std::process::Abort;
@@ -122,25 +122,52 @@ fn take_all(end: &mut LineEnd, bytes: &[u8], now: u32) {
     }
 }
 
-// An end that came into a case at moment 1,000.
-fn end_at(side: Side, case: Case) -> LineEnd {
+// Whether a slave that holds a block of its own, since it has yielded, may come into this case.
+fn may_hold(case: Case) -> bool {
+    match case {
+        Case::Idle
+        | Case::AwaitLength
+        | Case::Gathering
+        | Case::Last
+        | Case::Settling
+        | Case::WrongSum => true,
+        Case::AwaitEot | Case::LastEot | Case::AwaitAck | Case::LastAck => false,
+    }
+}
+
+// What brings an end into a case that doesn't hold a block, or has just been given one.
+fn bytes_to(case: Case) -> &'static [u8] {
+    match case {
+        Case::Idle | Case::AwaitEot => &[],
+        Case::LastEot => &[EOT, NAK, EOT, NAK, EOT, NAK],
+        Case::AwaitAck => &[EOT],
+        Case::LastAck => &[EOT, NAK, EOT, NAK, EOT, NAK, EOT],
+        Case::AwaitLength => &[ENQ],
+        Case::Gathering => &[ENQ, 0x0A, 0x00],
+        Case::Last => &[
+            ENQ, 0x0A, 0x00, 0x00, 0x81, 0x01, 0x80, 0x01, 0x00, 0x00, 0x00, 0x01, 0x01,
+        ],
+        Case::Settling => &[ENQ, 0x09],
+        Case::WrongSum => &[
+            ENQ, 0x0A, 0x00, 0x00, 0x81, 0x01, 0x80, 0x01, 0x00, 0x00, 0x00, 0x01, 0x01, 0x05,
+        ],
+    }
+}
+
+// An end that came into a case at moment 1,000; a slave may hold a block of its own meanwhile, for which it has asked
+// before.
+fn end_at(side: Side, case: Case, holds: bool) -> LineEnd {
     let mut end = LineEnd::new(side, TIMES);
     let mut out = Chars::new();
-    if case == Case::AwaitEot || case == Case::AwaitAck {
+    if holds || !may_hold(case) {
         let _event = make(&mut end, Send, 1_000, &mut out);
     }
-    let bytes = match case {
-        Case::Idle | Case::AwaitEot => [].as_slice(),
-        Case::AwaitAck => [EOT].as_slice(),
-        Case::AwaitLength => [ENQ].as_slice(),
-        Case::Gathering => [ENQ, 0x0A, 0x00].as_slice(),
-        Case::Last => [
-            ENQ, 0x0A, 0x00, 0x00, 0x81, 0x01, 0x80, 0x01, 0x00, 0x00, 0x00, 0x01, 0x01,
-        ]
-        .as_slice(),
-        Case::Settling => [ENQ, 0x09].as_slice(),
-    };
-    take_all(&mut end, bytes, 1_000);
+    if holds && case == Case::Idle {
+        take_all(&mut end, &[ENQ], 1_000);
+        take_all(&mut end, &ARE_YOU_THERE, 1_000);
+    } else {
+        take_all(&mut end, bytes_to(case), 1_000);
+    }
     end
 }
 
@@ -161,15 +188,33 @@ fn deadline_of(waits: Waits, before: Option<u64>, now: u32) -> Option<u64> {
     }
 }
 
+// Whether the end makes this call so, and holds its block on unless that was sent or has failed.
+fn goes_holding(end: &mut LineEnd, step: &Step) -> bool {
+    let held = end.holds();
+    let lets_go = step.4 == Tells::Sent || step.4 == Tells::Failed;
+    goes(end, step) && end.holds() == (held && !lets_go)
+}
+
 // Whether the end does in this case, at moment 2,000, what the row of the character says.
-fn follows_its_row(side: Side, case: Case, byte: u8) -> bool {
+fn follows_its_row(side: Side, case: Case, holds: bool, byte: u8) -> bool {
     let Some((_, _, _, writes, phase, waits, told)) = row_of(side, case, byte) else {
         return false;
     };
-    let mut end = end_at(side, case);
+    let mut end = end_at(side, case, holds);
     let before = end.deadline();
-    goes(&mut end, &(2_000, Take(byte), writes, phase, told))
+    end.holds() == (holds || !may_hold(case))
+        && goes_holding(&mut end, &(2_000, Take(byte), writes, phase, told))
         && end.deadline() == deadline_of(waits, before, 2_000)
+}
+
+// The first character at which it doesn't.
+fn first_astray(side: Side, case: Case, holds: bool) -> Option<u8> {
+    for byte in 0..=255u8 {
+        if !follows_its_row(side, case, holds, byte) {
+            return Some(byte);
+        }
+    }
+    None
 }
 
 #[test]
@@ -177,47 +222,146 @@ fn each_character_in_each_phase(rt: HostRuntime) {
     let cases = [
         Case::Idle,
         Case::AwaitEot,
+        Case::LastEot,
         Case::AwaitAck,
+        Case::LastAck,
         Case::AwaitLength,
         Case::Gathering,
         Case::Last,
         Case::Settling,
+        Case::WrongSum,
     ];
-    for side in SIDES {
-        for case in cases {
-            for byte in 0..=255u8 {
-                assert!(rt;
-                    follows_its_row(side, case, byte),
-                    "{side:?} {case:?} {byte}"
-                );
-            }
+    for case in cases {
+        for side in SIDES {
+            let astray = first_astray(side, case, false);
+            assert!(rt; astray.is_none(), "{side:?} {case:?} {astray:?}");
+        }
+        if may_hold(case) {
+            let astray = first_astray(Side::Host, case, true);
+            assert!(rt; astray.is_none(), "{case:?} {astray:?}, holding a block");
         }
     }
 }
 
-// Whether the end does nothing before its deadline, and at it what the row says.
-fn waits_for_its_deadline(side: Side, row: &Deadline) -> bool {
+// Whether the end does nothing before its deadline, and at it, or so much later, what the row says.
+fn waits_for_its_deadline(side: Side, row: &Deadline, holds: bool, late: u32) -> bool {
     let (case, due, writes, phase, waits, told) = *row;
-    let mut end = end_at(side, case);
+    let mut end = end_at(side, case, holds);
     let before = end.phase();
     for early in [0, 1_000, due.saturating_sub(1)] {
-        if !goes(&mut end, &(early, Tick, Quiet, before, Tells::Nothing)) {
+        if !goes_holding(&mut end, &(early, Tick, Quiet, before, Tells::Nothing)) {
             return false;
         }
     }
+    let now = due.saturating_add(late);
     end.deadline() == Some(u64::from(due))
-        && goes(&mut end, &(due, Tick, writes, phase, told))
-        && end.deadline() == deadline_of(waits, None, due)
+        && goes_holding(&mut end, &(now, Tick, writes, phase, told))
+        && end.deadline() == deadline_of(waits, None, now)
+}
+
+// Whether an idle end waits for nothing.
+fn waits_for_nothing(side: Side, holds: bool) -> bool {
+    let mut end = end_at(side, Case::Idle, holds);
+    end.deadline().is_none()
+        && goes_holding(
+            &mut end,
+            &(1_000_000, Tick, Quiet, Phase::Idle, Tells::Nothing),
+        )
 }
 
 #[test]
 fn each_deadline_in_each_phase(rt: HostRuntime) {
-    let idle = (1_000_000, Tick, Quiet, Phase::Idle, Tells::Nothing);
-    for side in SIDES {
+    for late in [0, 1, 100_000] {
         for row in &DEADLINES {
-            assert!(rt; waits_for_its_deadline(side, row), "{side:?} {row:?}");
+            for side in SIDES {
+                assert!(rt;
+                    waits_for_its_deadline(side, row, false, late),
+                    "{side:?} {row:?} {late}"
+                );
+            }
+            let holds = may_hold(row.0);
+            assert!(rt;
+                waits_for_its_deadline(Side::Host, row, holds, late),
+                "{row:?} {holds} {late}"
+            );
         }
-        assert!(rt; goes(&mut LineEnd::new(side, TIMES), &idle));
+    }
+    assert!(rt; waits_for_nothing(Side::Equipment, false));
+    assert!(rt; waits_for_nothing(Side::Host, false) && waits_for_nothing(Side::Host, true));
+}
+
+// An S6F11 from the equipment to its host.
+const REPORT: Header = Header {
+    from_equipment: true,
+    device: 0,
+    wait: true,
+    stream: 6,
+    function: 11,
+    last: true,
+    number: 1,
+    system: 1,
+};
+
+// The longest text of a block, of ENQs.
+static TEXT: [u8; 244] = [ENQ; 244];
+
+// Whether the end gathers these characters, and says nothing of them.
+fn gathers(end: &mut LineEnd, bytes: &[u8]) -> bool {
+    for byte in bytes {
+        if !goes(
+            end,
+            &(0, Take(*byte), Quiet, Phase::Gathering, Tells::Nothing),
+        ) {
+            return false;
+        }
+    }
+    true
+}
+
+// Whether the block of this frame arrived.
+fn is_arrived(event: &LineEvent, frame: &[u8]) -> bool {
+    match event {
+        LineEvent::Arrived(block) => frame_of(block).as_slice() == frame,
+        _ => false,
+    }
+}
+
+// Whether a block with this text arrives with its last character.
+fn arrives(side: Side, text: &[u8]) -> bool {
+    let Some(block) = Block::new(REPORT, text) else {
+        return false;
+    };
+    let frame = frame_of(&block);
+    let Some((last, front)) = frame.as_slice().split_last() else {
+        return false;
+    };
+    let mut end = LineEnd::new(side, TIMES);
+    let mut out = Chars::new();
+    take_all(&mut end, &[ENQ], 0);
+    if !gathers(&mut end, front) {
+        return false;
+    }
+    let event = make(&mut end, Take(*last), 0, &mut out);
+    is_arrived(&event, frame.as_slice())
+        && is_written(out.as_slice(), One(ACK))
+        && end.phase() == Phase::Idle
+        && end.deadline().is_none()
+}
+
+// Whether it does with so many bytes of text.
+fn arrives_with(side: Side, len: usize) -> bool {
+    if len > TEXT.len() {
+        return false;
+    }
+    arrives(side, TEXT.split_at(len).0)
+}
+
+#[test]
+fn each_length_arrives_with_its_last_character(rt: HostRuntime) {
+    for len in 0..245 {
+        for side in SIDES {
+            assert!(rt; arrives_with(side, len), "{side:?} {len}");
+        }
     }
 }
 
@@ -229,11 +373,11 @@ fn names_why_a_frame_is_refused(rt: HostRuntime) {
         (2_899, Tick, Quiet, Phase::Settling, Tells::Nothing),
         (2_900, Tick, One(NAK), Phase::Idle, Tells::Sum),
     ];
-    let mut end = end_at(Side::Equipment, Case::Last);
+    let mut end = end_at(Side::Equipment, Case::Last, false);
     let wrong = first_wrong(&mut end, &quiet);
     assert!(rt; wrong.is_none(), "{wrong:?}");
     for length in [0, 255] {
-        let mut end = end_at(Side::Host, Case::AwaitLength);
+        let mut end = end_at(Side::Host, Case::AwaitLength, false);
         take_all(&mut end, &[length, 0x55], 2_000);
         let mut out = Chars::new();
         let event = end.tick(2_500, &mut out);
@@ -370,7 +514,7 @@ fn a_yielded_block_may_be_dropped(rt: HostRuntime) {
         ),
         (11_000, Tick, One(NAK), Phase::Idle, Tells::T2),
     ];
-    let mut host = end_at(Side::Host, Case::AwaitEot);
+    let mut host = end_at(Side::Host, Case::AwaitEot, false);
     let wrong = first_wrong(&mut host, &yields);
     assert!(rt; wrong.is_none() && host.holds(), "{wrong:?}");
     assert!(rt;

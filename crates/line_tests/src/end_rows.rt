@@ -7,16 +7,20 @@ const T1: u64 = 500;
 
 const T2: u64 = 10_000;
 
-// Where an end stands as it meets a character or its deadline. `Last` is Gathering with one character missing.
+// Where an end stands as it meets a character or its deadline. `LastEot` and `LastAck` are so in the last try; `Last` is
+// Gathering with one character missing; and `Settling` comes behind a wrong length, `WrongSum` behind a wrong sum.
 #[derive(Clone, Copy, Debug, PartialEq, Eq)]
 pub enum Case {
     Idle,
     AwaitEot,
+    LastEot,
     AwaitAck,
+    LastAck,
     AwaitLength,
     Gathering,
     Last,
     Settling,
+    WrongSum,
 }
 
 // Which ends a row is for: both, or the slave alone.
@@ -59,7 +63,7 @@ pub enum Tells {
 pub type Row = (Case, Ends, (u8, u8), Writes, Phase, Waits, Tells);
 
 // What a character does: the first row of its case, its end and its range.
-pub const CHARACTERS: [Row; 13] = [
+pub const CHARACTERS: [Row; 19] = [
     (
         Case::Idle,
         Ends::Both,
@@ -106,6 +110,33 @@ pub const CHARACTERS: [Row; 13] = [
         Tells::Nothing,
     ),
     (
+        Case::LastEot,
+        Ends::Both,
+        (0x04, 0x04),
+        Frame,
+        Phase::AwaitAck,
+        Waits::For(T2),
+        Tells::Nothing,
+    ),
+    (
+        Case::LastEot,
+        Ends::Slave,
+        (0x05, 0x05),
+        One(0x04),
+        Phase::AwaitLength,
+        Waits::For(T2),
+        Tells::Nothing,
+    ),
+    (
+        Case::LastEot,
+        Ends::Both,
+        (0x00, 0xFF),
+        Quiet,
+        Phase::AwaitEot,
+        Waits::AsBefore,
+        Tells::Nothing,
+    ),
+    (
         Case::AwaitAck,
         Ends::Both,
         (0x06, 0x06),
@@ -122,6 +153,24 @@ pub const CHARACTERS: [Row; 13] = [
         Phase::AwaitEot,
         Waits::For(T2),
         Tells::Nothing,
+    ),
+    (
+        Case::LastAck,
+        Ends::Both,
+        (0x06, 0x06),
+        Quiet,
+        Phase::Idle,
+        Waits::Never,
+        Tells::Sent,
+    ),
+    (
+        Case::LastAck,
+        Ends::Both,
+        (0x00, 0xFF),
+        Quiet,
+        Phase::Idle,
+        Waits::Never,
+        Tells::Failed,
     ),
     (
         Case::AwaitLength,
@@ -177,12 +226,21 @@ pub const CHARACTERS: [Row; 13] = [
         Waits::For(T1),
         Tells::Nothing,
     ),
+    (
+        Case::WrongSum,
+        Ends::Both,
+        (0x00, 0xFF),
+        Quiet,
+        Phase::Settling,
+        Waits::For(T1),
+        Tells::Nothing,
+    ),
 ];
 
 // What the deadline does, and when it comes.
 pub type Deadline = (Case, u32, Writes, Phase, Waits, Tells);
 
-pub const DEADLINES: [Deadline; 6] = [
+pub const DEADLINES: [Deadline; 9] = [
     (
         Case::AwaitEot,
         11_000,
@@ -192,12 +250,28 @@ pub const DEADLINES: [Deadline; 6] = [
         Tells::Nothing,
     ),
     (
+        Case::LastEot,
+        11_000,
+        Quiet,
+        Phase::Idle,
+        Waits::Never,
+        Tells::Failed,
+    ),
+    (
         Case::AwaitAck,
         11_000,
         One(0x05),
         Phase::AwaitEot,
         Waits::For(T2),
         Tells::Nothing,
+    ),
+    (
+        Case::LastAck,
+        11_000,
+        Quiet,
+        Phase::Idle,
+        Waits::Never,
+        Tells::Failed,
     ),
     (
         Case::AwaitLength,
@@ -230,5 +304,13 @@ pub const DEADLINES: [Deadline; 6] = [
         Phase::Idle,
         Waits::Never,
         Tells::Length,
+    ),
+    (
+        Case::WrongSum,
+        1_500,
+        One(0x15),
+        Phase::Idle,
+        Waits::Never,
+        Tells::Sum,
     ),
 ];
