@@ -221,7 +221,8 @@ fn host<'a>(matches: &ArgMatches<'a>) -> Option<Command<'a>>
 fn host_of<'a>(plan: &'a str, address: &'a str, polls: u32, journal: Option<&'a str>) -> Command<'a>
     requires least { 1 ≤ polls }
     requires most { polls ≤ 4294967295 }
-    ensures command { asked_by result ≡ host_of plan.now address.now polls (option_map (λ text. text.now) journal.entry) }
+    ensures command { asked_by result
+        ≡ host_of plan.now address.now polls (option_map (λ text. text.now) journal.entry) }
     ensures range { IsInRange (asked_by result) }
 {
     match journal {

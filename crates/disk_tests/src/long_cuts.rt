@@ -12,8 +12,8 @@ use std::test::Fail;
 // What a list is: how many messages, from which number on.
 type List = (u32, u64);
 
-// What becomes of what isn't synced, and which list is left then: a letter for each call at which the disk stops, `a` for
-// the first list, and one for the call behind the last.
+// What becomes of what isn't synced, and which list is left then: a letter for each call at which the disk stops, `a`
+// for the first list, and one for the call behind the last.
 type Word = (CutChoice, &'static [u8]);
 
 // Of sixteen slots, a body of three: three looks, three parts, a sync, and the gate with its sync.

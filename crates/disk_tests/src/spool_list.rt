@@ -56,8 +56,8 @@ static LATER: [Row; 7] = [
     (Work::Put, Came::Put(PutAnswer::Stored(4)), 4, 1),
 ];
 
-// Of a new file, too: a message of two slots has no room beside two of one slot, and then goes into the last slot and the
-// first one.
+// Of a new file, too: a message of two slots has no room beside two of one slot, and then goes into the last slot and
+// the first one.
 static WRAPPING: [Row; 6] = [
     (Work::Put, Came::Put(PutAnswer::Stored(0)), 0, 1),
     (Work::Put, Came::Put(PutAnswer::Stored(1)), 0, 2),

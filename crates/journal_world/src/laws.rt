@@ -1,4 +1,5 @@
-//! What the claims of a log rest on, what a safe log says at each of its entries, and logs that can be followed by hand.
+//! What the claims of a log rest on, what a safe log says at each of its entries, and logs that can be followed by
+//! hand.
 
 ghost use Rattle.journal_world.specs.Below.{LawsHold};
 ghost use Rattle.journal_world.specs.FewCalls.{FewCallsFindRoom};

@@ -69,8 +69,8 @@ fn with_message<D: Disk + Drop>(spool: Spool<D>, body: &[u8]) -> Option<Spool<D>
     }
 }
 
-// Finds what is kept in the spool file of this name, and keeps a list of so many bytes there, as often, and says how many
-// bytes it then keeps.
+// Finds what is kept in the spool file of this name, and keeps a list of so many bytes there, as often, and says how
+// many bytes it then keeps.
 fn keep_again<D: Disk>(
     alloc: Global,
     disk: &mut D,
